@@ -1,0 +1,10 @@
+pub mod CaseLaws
+pub mod SetLaws
+pub mod LeastLaws
+pub mod WalkLaws
+pub mod ChainLaws
+pub mod EdgeLaws
+pub mod TruthLaws
+pub mod CycleLaws
+pub mod FoundedLaws
+pub mod UnfoundedLaws

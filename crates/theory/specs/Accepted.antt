@@ -1,0 +1,45 @@
+-- What the graph check leaves: every field in range, every leaf below its node, every chain ending, both totals within their limit
+-- (document 01, "Where a call is turned away", rows 1 to 9). Every later part relies on this record and on no row of the table.
+use mathlib.Core.Path.{_≡_}
+use mathlib.Core.Bool.{false}
+use mathlib.Core.List.{List, []}
+use Prim.Native.Nat.{ℕ, _+_, _*_, _≤_, _<_}
+use lib.ListN.{length, getD}
+use Rattle.theory.specs.Sets.{sumBelow}
+use Rattle.theory.specs.Theory.{Theory, WellFormed, joins}
+use Rattle.theory.specs.Words.{nodeAt, producerAt, Ending, theoryOf}
+
+-- an edition of the layout: its number, and its limits of atoms, nodes and producers, of links, and of leaf entries and head entries
+pub record Edition : Type 0 where
+  pub number : ℕ
+  pub counts : ℕ
+  pub links : ℕ
+  pub entries : ℕ
+
+abbrev pub edition1 : Edition
+edition1 = record { number = 1; counts = 1024; links = 4096; entries = 4096 }
+
+-- how many words a graph has
+abbrev pub sizeOf : List ℕ → ℕ
+sizeOf ws = 5 + 3 * getD ws 2 0 + 2 * getD ws 3 0 + 2 * getD ws 4 0
+
+-- all leaf entries, and all head entries
+abbrev pub leafEntries : Theory → ℕ
+leafEntries th = sumBelow (th .nodes) (λ n. length (th .leaves n))
+
+abbrev pub headEntries : Theory → ℕ
+headEntries th = sumBelow (th .producers) (λ p. length (th .heads p))
+
+pub record Accepted (ed : Edition) (ws : List ℕ) : Type 0 where
+  pub size : length ws ≡ sizeOf ws
+  pub atoms-few : getD ws 1 0 ≤ ed .counts
+  pub nodes-few : getD ws 2 0 ≤ ed .counts
+  pub producers-few : getD ws 3 0 ≤ ed .counts
+  pub links-few : getD ws 4 0 ≤ ed .links
+  pub kind-low : (n : ℕ) → n < getD ws 2 0 → getD ws (nodeAt n) 0 ≤ 7
+  pub leaf-chain : (n : ℕ) → n < getD ws 2 0 → Ending ws (getD ws (nodeAt n + 2) 0)
+  pub head-chain : (p : ℕ) → p < getD ws 3 0 → Ending ws (getD ws (producerAt ws p + 1) 0)
+  pub leafless : (n : ℕ) → n < getD ws 2 0 → joins (theoryOf ws .kind n) ≡ false → theoryOf ws .leaves n ≡ []
+  pub well-formed : WellFormed (theoryOf ws)
+  pub leaf-total : leafEntries (theoryOf ws) ≤ ed .entries
+  pub head-total : headEntries (theoryOf ws) ≤ ed .entries

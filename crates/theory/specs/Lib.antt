@@ -1,0 +1,11 @@
+pub mod Sets
+pub mod Least
+pub mod Walks
+pub mod Theory
+pub mod Edges
+pub mod Truth
+pub mod Founded
+pub mod Unfounded
+pub mod Words
+pub mod Accepted
+pub mod Cases
