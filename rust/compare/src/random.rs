@@ -1,0 +1,230 @@
+//! Random graphs: shared tails, repeats, facts, empty And and Or, opaque kinds,
+//! kind 7 in and out of the cone, unused links with wild values.
+
+use crate::agree::Masks;
+use crate::content::{ABSORBED, AND, ATOM, Draft, IMPLIES, OR};
+use crate::rng::Rng;
+
+/// How large a graph may become, and how long its lists.
+#[derive(Clone, Copy, Debug)]
+pub struct Scale {
+    pub atoms: usize,
+    pub nodes: usize,
+    pub rules: usize,
+    pub list: usize,
+    pub links: usize,
+}
+
+/// Sizes in the order they are drawn from, small ones first.
+pub const SCALES: [Scale; 6] = [
+    scale(3, 4, 4, 2, 24),
+    scale(6, 8, 8, 4, 60),
+    scale(10, 16, 14, 5, 120),
+    scale(80, 140, 90, 6, 700),
+    scale(300, 500, 300, 8, 2_000),
+    scale(1_024, 1_024, 1_024, 12, 4_096),
+];
+
+const fn scale(atoms: usize, nodes: usize, rules: usize, list: usize, links: usize) -> Scale {
+    Scale {
+        atoms,
+        nodes,
+        rules,
+        list,
+        links,
+    }
+}
+
+/// Links under construction. They are made from the last to the first, since a
+/// next is greater than its own link: `next` is a position in `made`, plus 1.
+struct Links {
+    made: Vec<(u16, usize)>,
+    room: usize,
+    entries: usize,
+}
+
+const MOST_ENTRIES: usize = 4_096;
+
+impl Links {
+    fn new(room: usize) -> Self {
+        Self {
+            made: vec![],
+            room,
+            entries: 0,
+        }
+    }
+
+    fn push(&mut self, value: u16, next: usize) -> usize {
+        self.made.push((value, next));
+        self.made.len()
+    }
+
+    /// The length of the chain from `first`, if all its values are below the bound.
+    fn fitting(&self, first: usize, bound: usize) -> Option<usize> {
+        let mut length = 0;
+        let mut link = first;
+        while link != 0 {
+            let (value, next) = self.made[link - 1];
+            if usize::from(value) >= bound {
+                return None;
+            }
+            length += 1;
+            link = next;
+        }
+        Some(length)
+    }
+
+    /// A chain of values below the bound, its tail sometimes another's.
+    fn chain(&mut self, rng: &mut Rng, bound: usize, most: usize) -> usize {
+        if bound == 0 {
+            return 0;
+        }
+        let mut first = 0;
+        let mut length = 0;
+        if !self.made.is_empty() && rng.chance(1, 3) {
+            let tail = rng.between(1, self.made.len());
+            if let Some(tail_length) = self.fitting(tail, bound) {
+                (first, length) = (tail, tail_length);
+            }
+        }
+        if self.entries + length > MOST_ENTRIES {
+            (first, length) = (0, 0);
+        }
+        for _ in 0..rng.between(0, most) {
+            if self.made.len() >= self.room || self.entries + length >= MOST_ENTRIES {
+                break;
+            }
+            if rng.chance(1, 12) && self.made.len() + 1 < self.room {
+                self.unused(rng);
+            }
+            first = self.push(value(rng, bound), first);
+            length += 1;
+        }
+        self.entries += length;
+        first
+    }
+
+    /// A link in no chain, unless a later tail takes it up.
+    fn unused(&mut self, rng: &mut Rng) {
+        let wild = match rng.below(3) {
+            0 => u16::MAX,
+            1 => rng.word() as u16,
+            _ => rng.below(8) as u16,
+        };
+        let next = rng.between(0, self.made.len());
+        self.push(wild, next);
+    }
+
+    /// The final number of a link: the last made is link 1.
+    fn number(&self, link: usize) -> u16 {
+        if link == 0 {
+            0
+        } else {
+            (self.made.len() + 1 - link) as u16
+        }
+    }
+
+    fn records(&self) -> Vec<[u16; 2]> {
+        self.made
+            .iter()
+            .rev()
+            .map(|&(value, next)| [value, self.number(next)])
+            .collect()
+    }
+}
+
+/// Below the bound, close to it half the time: bodies made of what just came.
+fn value(rng: &mut Rng, bound: usize) -> u16 {
+    let near = bound.min(4);
+    if rng.chance(1, 2) {
+        (bound - 1 - rng.below(near)) as u16
+    } else {
+        rng.below(bound) as u16
+    }
+}
+
+/// A random graph's words; nearly always one that the graph check accepts.
+pub fn graph(rng: &mut Rng, scale: Scale) -> Vec<u16> {
+    let full = rng.chance(1, 8);
+    let mut size = |most: usize| if full { most } else { rng.between(0, most) };
+    let (atoms, nodes, rules) = (size(scale.atoms), size(scale.nodes), size(scale.rules));
+    let absorbed = rng.chance(1, 4);
+    let mut links = Links::new(scale.links);
+    let mut draft = Draft::new(atoms as u16);
+    let mut firsts = Vec::new();
+    for number in 0..nodes {
+        let kind = kind(rng, atoms, number, absorbed);
+        let first = match kind {
+            AND | OR => links.chain(rng, number, scale.list),
+            _ => 0,
+        };
+        firsts.push(first);
+        let operand = if kind == ATOM {
+            rng.below(atoms) as u16
+        } else {
+            0
+        };
+        draft.nodes.push([kind, operand, 0]);
+    }
+    links.entries = 0;
+    for _ in 0..rules {
+        firsts.push(links.chain(rng, atoms, scale.list.min(4)));
+        draft.rules.push([body(rng, nodes), 0]);
+    }
+    for (node, &first) in draft.nodes.iter_mut().zip(&firsts) {
+        node[2] = links.number(first);
+    }
+    for (rule, &first) in draft.rules.iter_mut().zip(&firsts[nodes..]) {
+        rule[1] = links.number(first);
+    }
+    draft.links = links.records();
+    draft.words()
+}
+
+/// Atoms mostly, then And and Or; low numbers have few leaves to take.
+fn kind(rng: &mut Rng, atoms: usize, number: usize, absorbed: bool) -> u16 {
+    match rng.below(20) {
+        0 => 0,
+        1 => IMPLIES + rng.below(3) as u16,
+        2 if absorbed => ABSORBED,
+        3..=10 if atoms > 0 => ATOM,
+        3..=7 if number < 3 => IMPLIES,
+        low => AND + (low % 2) as u16,
+    }
+}
+
+fn body(rng: &mut Rng, nodes: usize) -> u16 {
+    if nodes == 0 || rng.chance(1, 12) {
+        0
+    } else {
+        value(rng, nodes) + 1
+    }
+}
+
+/// A mask: clear, sparse, even or dense, its bits past the last number wild.
+pub fn mask(rng: &mut Rng, count: usize) -> Vec<u64> {
+    let style = rng.below(5);
+    let word = |rng: &mut Rng| match style {
+        0 => 0,
+        1 => rng.word() & rng.word() & rng.word(),
+        2 => rng.word() & rng.word(),
+        3 => rng.word(),
+        _ => rng.word() | rng.word(),
+    };
+    let mut words: Vec<u64> = (0..count.div_ceil(64)).map(|_| word(rng)).collect();
+    if let (Some(last), 1..) = (words.last_mut(), count % 64) {
+        let past = !0 << (count % 64);
+        *last = *last & !past | rng.word() & past;
+    }
+    words
+}
+
+/// Clear masks first, then random ones.
+pub fn masks(rng: &mut Rng, words: &[u16], pairs: usize) -> Vec<Masks> {
+    let [atoms, nodes] = [1, 2].map(|i| usize::from(words[i]));
+    let clear = (vec![0; nodes.div_ceil(64)], vec![0; atoms.div_ceil(64)]);
+    let random = (1..pairs).map(|_| (mask(rng, nodes), mask(rng, atoms)));
+    std::iter::once(clear)
+        .chain(random.collect::<Vec<_>>())
+        .collect()
+}

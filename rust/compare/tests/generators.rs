@@ -1,0 +1,99 @@
+//! The random graphs have what their module promises.
+
+use compare::random::{self, SCALES};
+use compare::rng::Rng;
+use paper::{Graph, Kind};
+
+/// Graphs that show each feature.
+#[derive(Debug, Default)]
+struct Seen {
+    shared_tails: usize,
+    repeats: usize,
+    facts: usize,
+    no_heads: usize,
+    empty_and: usize,
+    empty_or: usize,
+    opaque: usize,
+    absorbed_inside: usize,
+    absorbed_outside: usize,
+    wild_links: usize,
+}
+
+impl Seen {
+    fn add(&mut self, words: &[u16]) {
+        let graph = Graph::decode(words).expect("random graphs pass the graph check");
+        let empty = |kind| {
+            graph
+                .nodes
+                .iter()
+                .any(|node| node.kind == kind && node.leaves.is_empty())
+        };
+        let lists = || {
+            graph
+                .nodes
+                .iter()
+                .map(|node| &node.leaves)
+                .chain(graph.rules.iter().map(|rule| &rule.heads))
+        };
+        let repeats = |list: &Vec<usize>| (1..list.len()).any(|i| list[..i].contains(&list[i]));
+        let absorbed = graph.nodes.iter().any(|node| node.kind == Kind::Absorbed);
+        let entries: usize = lists().map(Vec::len).sum();
+        let links = usize::from(words[4]);
+        let values = words[words.len() - 2 * links..].iter().step_by(2);
+        self.shared_tails += usize::from(entries > links);
+        self.repeats += usize::from(lists().any(repeats));
+        self.facts += usize::from(graph.rules.iter().any(|rule| rule.body.is_none()));
+        self.no_heads += usize::from(graph.rules.iter().any(|rule| rule.heads.is_empty()));
+        self.empty_and += usize::from(empty(Kind::And));
+        self.empty_or += usize::from(empty(Kind::Or));
+        self.opaque += usize::from(empty(Kind::Opaque));
+        self.absorbed_inside += usize::from(absorbed && graph.prepared().is_err());
+        self.absorbed_outside += usize::from(absorbed && graph.prepared().is_ok());
+        self.wild_links += usize::from(values.into_iter().any(|&value| value > 1_024));
+    }
+
+    fn least(&self) -> usize {
+        let counts = [
+            self.shared_tails,
+            self.repeats,
+            self.facts,
+            self.no_heads,
+            self.empty_and,
+            self.empty_or,
+            self.opaque,
+            self.absorbed_inside,
+            self.absorbed_outside,
+            self.wild_links,
+        ];
+        counts.into_iter().min().unwrap_or(0)
+    }
+}
+
+#[test]
+fn features_of_random_graphs() {
+    let mut rng = Rng::new(3);
+    let mut seen = Seen::default();
+    for i in 0..3_000 {
+        seen.add(&random::graph(&mut rng, SCALES[i % 3]));
+    }
+    assert!(seen.least() >= 50, "{seen:?}");
+}
+
+/// Some random graphs fill every count, and some entries come close to 4,096.
+#[test]
+fn largest_random_graphs() {
+    let mut rng = Rng::new(4);
+    let graphs: Vec<Vec<u16>> = (0..40)
+        .map(|_| random::graph(&mut rng, SCALES[5]))
+        .collect();
+    assert!(graphs.iter().all(|words| paper::check(words).is_ok()));
+    assert!(graphs.iter().any(|words| words[1..4] == [1_024; 3]));
+    assert!(graphs.iter().any(|words| words[4] >= 4_095));
+}
+
+#[test]
+fn ignored_mask_bits_are_wild() {
+    let mut rng = Rng::new(5);
+    let past = |rng: &mut Rng| random::mask(rng, 3)[0] >> 3;
+    assert!((0..100).filter(|_| past(&mut rng) != 0).count() > 90);
+}

@@ -1,0 +1,72 @@
+//! "The graph as lent words", decoded.
+
+use crate::table::Parts;
+use crate::{Refusal, check};
+
+#[derive(Clone, Copy, Debug, PartialEq, Eq)]
+pub enum Kind {
+    False,
+    /// Names an atom.
+    Atom(usize),
+    And,
+    Or,
+    /// Implies, Threshold and `ExtremumCut`.
+    Opaque,
+    /// Kind 7.
+    Absorbed,
+}
+
+/// A condition; its leaves are below its own number.
+#[derive(Clone, Debug)]
+pub struct Node {
+    pub kind: Kind,
+    pub leaves: Vec<usize>,
+}
+
+/// A rule; one without a body is a fact.
+#[derive(Clone, Debug)]
+pub struct Rule {
+    pub body: Option<usize>,
+    pub heads: Vec<usize>,
+}
+
+/// An accepted graph: its states, conditions and rules.
+#[derive(Clone, Debug)]
+pub struct Graph {
+    pub atoms: usize,
+    pub nodes: Vec<Node>,
+    pub rules: Vec<Rule>,
+}
+
+impl Graph {
+    /// # Errors
+    /// As [`check`] turns the words away.
+    pub fn decode(words: &[u16]) -> Result<Self, Refusal> {
+        check(words)?;
+        let parts = Parts::of(words);
+        let node = |c: usize| Node {
+            kind: kind(parts.condition(c)),
+            leaves: parts.leaves(c).collect(),
+        };
+        let rule = |r: usize| Rule {
+            body: parts.rule(r)[0].checked_sub(1),
+            heads: parts.heads(r).collect(),
+        };
+        Ok(Self {
+            atoms: parts.a,
+            nodes: (0..parts.n).map(node).collect(),
+            rules: (0..parts.p).map(rule).collect(),
+        })
+    }
+}
+
+fn kind([kind, operand, _]: [usize; 3]) -> Kind {
+    match kind {
+        0 => Kind::False,
+        1 => Kind::Atom(operand),
+        2 => Kind::And,
+        3 => Kind::Or,
+        4..=6 => Kind::Opaque,
+        _ => Kind::Absorbed,
+    }
+}

@@ -1,0 +1,153 @@
+//! "Where a call is turned away": the table's rows, in its order.
+
+/// The length of the work area, in 16-bit words.
+pub const WORK_WORDS: usize = 32_768;
+
+const MOST: usize = 1_024;
+const MOST_LINKS: usize = 4_096;
+const MOST_ENTRIES: usize = 4_096;
+
+/// A call turned away: the row's number and each place it may return. Only 12
+/// can have several, ascending.
+#[derive(Clone, Debug, PartialEq, Eq)]
+pub struct Refusal {
+    pub number: u16,
+    pub places: Vec<u16>,
+}
+
+impl Refusal {
+    pub(crate) fn at(number: u16, place: usize) -> Self {
+        Self {
+            number,
+            places: vec![place.try_into().expect("a place is a word")],
+        }
+    }
+}
+
+/// Rows 1 to 9.
+///
+/// # Errors
+/// The first row of the table that applies.
+pub fn check(words: &[u16]) -> Result<(), Refusal> {
+    header(words)?;
+    length(words)?;
+    let parts = Parts::of(words);
+    let first = |number: u16, found: Option<usize>| match found {
+        Some(place) => Err(Refusal::at(number, place)),
+        None => Ok(()),
+    };
+    first(4, (0..parts.n).find(|&c| parts.bad_condition(c)))?;
+    first(5, (0..parts.p).find(|&r| parts.bad_rule(r)))?;
+    first(6, (1..=parts.k).find(|&l| parts.bad_link(l)))?;
+    first(
+        7,
+        (0..parts.n).find(|&c| parts.leaves(c).any(|leaf| leaf >= c)),
+    )?;
+    first(
+        8,
+        (0..parts.p).find(|&r| parts.heads(r).any(|head| head >= parts.a)),
+    )?;
+    let leaf_entries: usize = (0..parts.n).map(|c| parts.leaves(c).count()).sum();
+    let head_entries: usize = (0..parts.p).map(|r| parts.heads(r).count()).sum();
+    if leaf_entries > MOST_ENTRIES || head_entries > MOST_ENTRIES {
+        return Err(Refusal::at(9, 0));
+    }
+    Ok(())
+}
+
+/// Rows 1 and 2, which the header alone decides.
+pub(crate) fn header(words: &[u16]) -> Result<(), Refusal> {
+    if words.len() < 5 || words[0] != 1 {
+        return Err(Refusal::at(1, 0));
+    }
+    let Parts { a, n, p, k, .. } = Parts::of(words);
+    if a > MOST || n > MOST || p > MOST || k > MOST_LINKS {
+        return Err(Refusal::at(2, 0));
+    }
+    Ok(())
+}
+
+/// How many words the header says the graph has.
+pub(crate) fn sized(words: &[u16]) -> usize {
+    let Parts { n, p, k, .. } = Parts::of(words);
+    5 + 3 * n + 2 * p + 2 * k
+}
+
+fn length(words: &[u16]) -> Result<(), Refusal> {
+    if words.len() != sized(words) {
+        return Err(Refusal::at(3, 0));
+    }
+    Ok(())
+}
+
+/// The words of a graph by their records.
+#[derive(Clone, Copy)]
+pub(crate) struct Parts<'a> {
+    words: &'a [u16],
+    pub(crate) a: usize,
+    pub(crate) n: usize,
+    pub(crate) p: usize,
+    pub(crate) k: usize,
+}
+
+impl<'a> Parts<'a> {
+    pub(crate) fn of(words: &'a [u16]) -> Self {
+        let [a, n, p, k] = [1, 2, 3, 4].map(|i| usize::from(words[i]));
+        Self { words, a, n, p, k }
+    }
+
+    fn word(&self, position: usize) -> usize {
+        usize::from(self.words[position])
+    }
+
+    /// Kind, operand, first link.
+    pub(crate) fn condition(&self, c: usize) -> [usize; 3] {
+        [0, 1, 2].map(|field| self.word(5 + 3 * c + field))
+    }
+
+    /// Body + 1, first head link.
+    pub(crate) fn rule(&self, r: usize) -> [usize; 2] {
+        [0, 1].map(|field| self.word(5 + 3 * self.n + 2 * r + field))
+    }
+
+    /// Value, next. Links are numbered from 1.
+    fn link(&self, l: usize) -> [usize; 2] {
+        [0, 1].map(|field| self.word(5 + 3 * self.n + 2 * self.p + 2 * (l - 1) + field))
+    }
+
+    fn bad_condition(&self, c: usize) -> bool {
+        let [kind, operand, first] = self.condition(c);
+        let is_atom = kind == 1;
+        let has_links = kind == 2 || kind == 3;
+        kind > 7
+            || (is_atom && operand >= self.a)
+            || (!is_atom && operand != 0)
+            || first > self.k
+            || (!has_links && first != 0)
+    }
+
+    fn bad_rule(&self, r: usize) -> bool {
+        let [body_after, first] = self.rule(r);
+        body_after > self.n || first > self.k
+    }
+
+    fn bad_link(&self, l: usize) -> bool {
+        let [_, next] = self.link(l);
+        next > self.k || (next != 0 && next <= l)
+    }
+
+    /// The values along the chain from `first`; link 0 ends it.
+    fn chain(self, first: usize) -> impl Iterator<Item = usize> + 'a {
+        let link = |l: usize| (l != 0).then_some(l);
+        std::iter::successors(link(first), move |&l| link(self.link(l)[1]))
+            .map(move |l| self.link(l)[0])
+    }
+
+    pub(crate) fn leaves(self, c: usize) -> impl Iterator<Item = usize> + 'a {
+        self.chain(self.condition(c)[2])
+    }
+
+    pub(crate) fn heads(self, r: usize) -> impl Iterator<Item = usize> + 'a {
+        self.chain(self.rule(r)[1])
+    }
+}
