@@ -4,7 +4,7 @@ use mathlib.Core.Path.{_≡_, refl, sym, ap, _∙_, subst}
 use mathlib.Core.Logic.{_⊎_, inl, inr, _↔_}
 use mathlib.Core.Bool.{Bool, true, false, _&&_, _||_, cond}
 use mathlib.Core.List.{List, [], _∷_, _++_, List·Memᴰ·head, List·Memᴰ·tail, List·Memᴰ·cases-cons, List·Memᴰ·not-nil, List·Memᴰ·append-cases, Memᴰ·append-left, Memᴰ·append-right}
-use Prim.Native.Nat.{ℕ, zero, suc, _+_, _-_, _<_}
+use Prim.Native.Nat.{ℕ, zero, suc, _+_, _-_, _≤_, _<_}
 use native.Mathlib.Nat.{not-suc-le-zero}
 use native.Mathlib.Omega.{arith}
 use native.Mathlib.Decide.{ℕ-discrete}
@@ -144,24 +144,21 @@ module _ (th : Theory) where
             bodies (r .0) n (r .1) (eq-is _ _ (and-left (eqb (th .body (r .0)) (suc n)) (wanted (r .0)) (r .2))) (and-right (eqb (th .body (r .0)) (suc n)) (wanted (r .0)) (r .2))
         go n (inr q) = let r = leaf-found s n q in leaves n (r .0) (r .1) (r .2) (r .3) (r .4)
 
-  -- a narrower set of nodes has no other edges
-  pub preds-wide : (c : Set) (v w : ℕ) → Mem w (preds th c v) → Mem w (preds th everyone v)
+  -- an edge leads to an atom, or to a node of the set
+  pub preds-vertex : (c : Set) (v w : ℕ) → Mem w (preds th c v) → (v < th .atoms) ⊎ ((th .atoms ≤ v) × (v - th .atoms < th .nodes) × Is (c (v - th .atoms)))
   unfolding preds predsBy
-  preds-wide c v w m = go (ltb v (th .atoms)) (ltb (v - th .atoms) (th .nodes)) (c (v - th .atoms)) m
+  preds-vertex c v w m = go (ltb v (th .atoms)) refl (ltb (v - th .atoms) (th .nodes)) refl (c (v - th .atoms)) refl m
     where
-      go : (a b d : Bool) → Mem w (predsBy th a (b && d) v) → Mem w (predsBy th a (b && true) v)
-      go true b d m = m
-      go false true true m = m
-      go false true false m = absurd (List·Memᴰ·not-nil m)
-      go false false d m = m
+      go : (a : Bool) → ltb v (th .atoms) ≡ a → (b : Bool) → ltb (v - th .atoms) (th .nodes) ≡ b → (d : Bool) → c (v - th .atoms) ≡ d → Mem w (predsBy th a (b && d) v)
+          → (v < th .atoms) ⊎ ((th .atoms ≤ v) × (v - th .atoms < th .nodes) × Is (c (v - th .atoms)))
+      go true p b q d r m = inl (ltb→lt v (th .atoms) (is-T _ p))
+      go false p true q true r m = inr (nltb→le v (th .atoms) (is-T _ (not-false _ p)), ltb→lt (v - th .atoms) (th .nodes) (is-T _ q), r)
+      go false p true q false r m = absurd (List·Memᴰ·not-nil m)
+      go false p false q d r m = absurd (List·Memᴰ·not-nil m)
 
-  -- an edge leads to a vertex
   pub preds-low : (c : Set) (v w : ℕ) → Mem w (preds th c v) → v < th .atoms + th .nodes
-  unfolding preds predsBy
-  preds-low c v w m = go (ltb v (th .atoms)) refl (ltb (v - th .atoms) (th .nodes)) refl (c (v - th .atoms)) m
+  preds-low c v w m = go (preds-vertex c v w m)
     where
-      go : (a : Bool) → ltb v (th .atoms) ≡ a → (b : Bool) → ltb (v - th .atoms) (th .nodes) ≡ b → (d : Bool) → Mem w (predsBy th a (b && d) v) → v < th .atoms + th .nodes
-      go true p b q d m = let h = ltb→lt v (th .atoms) (is-T _ p) in omega arith
-      go false p true q true m = let h = ltb→lt (v - th .atoms) (th .nodes) (is-T _ q) in let k = nltb→le v (th .atoms) (is-T _ (not-false _ p)) in omega arith
-      go false p true q false m = absurd (List·Memᴰ·not-nil m)
-      go false p false q d m = absurd (List·Memᴰ·not-nil m)
+      go : (v < th .atoms) ⊎ ((th .atoms ≤ v) × (v - th .atoms < th .nodes) × Is (c (v - th .atoms))) → v < th .atoms + th .nodes
+      go (inl l) = omega arith
+      go (inr (l, k, h)) = omega arith

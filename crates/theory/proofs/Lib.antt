@@ -8,3 +8,17 @@ pub mod TruthLaws
 pub mod CycleLaws
 pub mod FoundedLaws
 pub mod UnfoundedLaws
+pub mod CountLaws
+pub mod DriveLaws
+pub mod KahnLaws
+pub mod ClosureLaws
+pub mod WorklistLaws
+pub mod PassLaws
+pub mod ComponentLaws
+pub mod SearchLaws
+pub mod CollectLaws
+pub mod ConeLaws
+pub mod RowLaws
+pub mod PrefixLaws
+pub mod StartingLaws
+pub mod PassStartLaws

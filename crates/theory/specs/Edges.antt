@@ -62,3 +62,11 @@ module _ (th : Theory) where
   -- document 01's first cone: from the producers with at least one head
   unfoldable pub bodyCone : Set
   bodyCone = cone (λ p. filled (th .heads p))
+
+  -- the vertices of preparation: all atoms and the body cone
+  unfoldable pub inGraph : Set
+  inGraph v = ltb v (th .atoms) || bodyCone (v - th .atoms)
+
+  -- the edges of preparation
+  abbrev pub conePreds : ℕ → List ℕ
+  conePreds v = preds bodyCone v

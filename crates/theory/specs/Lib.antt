@@ -9,3 +9,14 @@ pub mod Unfounded
 pub mod Words
 pub mod Accepted
 pub mod Cases
+pub mod Counts
+pub mod Rows
+pub mod Kahn
+pub mod Drive
+pub mod Closure
+pub mod Worklist
+pub mod Pass
+pub mod Components
+pub mod Search
+pub mod Prefix
+pub mod Starting
