@@ -1,0 +1,18 @@
+use borrow.Author.Needs.{needs}
+use Rattle.graph.proofs.first_head.Statement.{statement}
+use Rattle.graph.proofs.first_head.Tie as tie
+
+producer-at-requires : tie.Need-producer-at-requires
+producer-at-requires c κs = search needs
+
+add-at : tie.Need-add-at
+add-at c = search needs
+
+at-requires : tie.Need-at-requires
+at-requires c κs = search needs
+
+returns : tie.Need-returns
+returns c = cc
+
+pub first-head-spec : {M : Type 1} → statement M
+first-head-spec = tie.close (tie.spec producer-at-requires add-at at-requires returns)

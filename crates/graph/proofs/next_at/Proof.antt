@@ -1,0 +1,18 @@
+use borrow.Author.Needs.{needs}
+use Rattle.graph.proofs.next_at.Statement.{statement}
+use Rattle.graph.proofs.next_at.Tie as tie
+
+link-at-requires : tie.Need-link-at-requires
+link-at-requires c κs = search needs
+
+add-at : tie.Need-add-at
+add-at c = search needs
+
+at-requires : tie.Need-at-requires
+at-requires c κs = search needs
+
+returns : tie.Need-returns
+returns c = cc
+
+pub next-at-spec : {M : Type 1} → statement M
+next-at-spec = tie.close (tie.spec link-at-requires add-at at-requires returns)

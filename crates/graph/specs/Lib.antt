@@ -1,0 +1,5 @@
+pub mod Kinds
+pub mod Layout
+pub mod Search
+pub mod Answer
+pub mod Refusals
