@@ -1,0 +1,217 @@
+// Incidence rows by counting, summing and filling. A table is rows + 1 offsets and then the entries, in a lent part of the work area; what
+// stood there before has no effect.
+ghost use mathlib.Core.Path.{_≡_};
+ghost use mathlib.Core.List.{[], _∷_};
+ghost use Prim.Native.Nat.{_+_, _<_, _≤_};
+ghost use lib.ListN.{length};
+ghost use Rattle.theory.specs.Words.{chain, Ending, theoryOf};
+ghost use Rattle.theory.specs.Accepted.{Accepted, edition1};
+ghost use Rattle.theory.specs.Rows.{edge, tagged, bodyKeys, atomKeys};
+ghost use Rattle.theory.specs.Drive.{Follows, Drives};
+ghost use Rattle.area.specs.Layout.{Based};
+ghost use Rattle.adjacency.specs.Tables.{keysOf, itemsOf, rowsOf, edgesOf, baseOf, nextOf, startAt, Tabled, Built};
+ghost use Rattle.adjacency.specs.Building.{Building, Summed, sumOf};
+use area::Bases;
+
+// Nodes per atom, parents per node, producers per head, producers per body.
+pub enum Table {
+    AtomNodes,
+    Parents,
+    ByHead,
+    ByBody,
+}
+
+// An edge: while counting, one more in its row; while filling, the row's next entry.
+fn place(part: &mut [u16], rows: usize, filling: bool, row: usize, entry: usize)
+    requires { ⌜ Follows (Building 65536 filling rows) (now part) 0 (edge row entry ∷ []) ⌝ }
+    ensures { λ _. ⌜ Drives (Building 65536 filling rows) 0 (now (part .entry)) 0 (edge row entry ∷ []) (now (part .exit)) 0 [] ⌝ }
+{
+    let cursor = counters::add(part, row + 1, 1);
+    if filling {
+        area::put(part, rows + 1 + cursor, entry);
+        return;
+    }
+}
+
+// An item's edges along a chain.
+fn place_chain(
+    graph: &[u16],
+    part: &mut [u16],
+    rows: usize,
+    filling: bool,
+    first: usize,
+    item: usize,
+)
+    requires { ⌜ Accepted edition1 (now graph) × Ending (now graph) first ⌝ }
+    requires { ⌜ Follows (Building 65536 filling rows) (now part) 0 (tagged item (chain (now graph) first)) ⌝ }
+    ensures { λ _. ⌜ Drives (Building 65536 filling rows) 0 (now (part .entry)) 0 (tagged item (chain (now (graph .entry)) first)) (now (part .exit)) 0 [] ⌝ }
+{
+    let mut l = first;
+    while l > 0 {
+        place(part, rows, filling, graph::value(graph, l), item);
+        l = graph::next(graph, l);
+    }
+}
+
+// A node's edge to the atom that it names.
+fn place_atom(graph: &[u16], part: &mut [u16], rows: usize, filling: bool, n: usize)
+    requires { ⌜ Accepted edition1 (now graph) × (n < theoryOf (now graph) .nodes) ⌝ }
+    requires { ⌜ Follows (Building 65536 filling rows) (now part) 0 (tagged n (atomKeys (theoryOf (now graph)) (theoryOf (now graph) .kind n) n)) ⌝ }
+    ensures { λ _. ⌜ Drives (Building 65536 filling rows) 0 (now (part .entry)) 0 (tagged n (atomKeys (theoryOf (now (graph .entry))) (theoryOf (now (graph .entry)) .kind n) n)) (now (part .exit)) 0 [] ⌝ }
+{
+    if graph::kind(graph, n) == 1 {
+        place(part, rows, filling, graph::operand(graph, n), n);
+        return;
+    }
+}
+
+// A producer's edge to its body.
+fn place_body(graph: &[u16], part: &mut [u16], rows: usize, filling: bool, p: usize)
+    requires { ⌜ Accepted edition1 (now graph) × (p < theoryOf (now graph) .producers) ⌝ }
+    requires { ⌜ Follows (Building 65536 filling rows) (now part) 0 (tagged p (bodyKeys (theoryOf (now graph) .body p))) ⌝ }
+    ensures { λ _. ⌜ Drives (Building 65536 filling rows) 0 (now (part .entry)) 0 (tagged p (bodyKeys (theoryOf (now (graph .entry)) .body p))) (now (part .exit)) 0 [] ⌝ }
+{
+    let body = graph::body(graph, p);
+    if body > 0 {
+        place(part, rows, filling, body - 1, p);
+        return;
+    }
+}
+
+// An item's edges.
+fn place_item(graph: &[u16], part: &mut [u16], rows: usize, filling: bool, table: Table, i: usize)
+    requires { ⌜ Accepted edition1 (now graph) × (i < itemsOf (theoryOf (now graph)) table) ⌝ }
+    requires { ⌜ Follows (Building 65536 filling rows) (now part) 0 (tagged i (keysOf (theoryOf (now graph)) table i)) ⌝ }
+    ensures { λ _. ⌜ Drives (Building 65536 filling rows) 0 (now (part .entry)) 0 (tagged i (keysOf (theoryOf (now (graph .entry))) table i)) (now (part .exit)) 0 [] ⌝ }
+{
+    match table {
+        Table::AtomNodes => place_atom(graph, part, rows, filling, i),
+        Table::Parents => place_chain(graph, part, rows, filling, graph::first_leaf(graph, i), i),
+        Table::ByHead => place_chain(graph, part, rows, filling, graph::first_head(graph, i), i),
+        Table::ByBody => place_body(graph, part, rows, filling, i),
+    }
+}
+
+// How many items a table has.
+fn items(graph: &[u16], table: Table) -> usize
+    requires { ⌜ Accepted edition1 (now graph) ⌝ }
+    ensures { λ r. ⌜ r ≡ itemsOf (theoryOf (now (graph .entry))) table ⌝ }
+{
+    match table {
+        Table::AtomNodes => graph::nodes(graph),
+        Table::Parents => graph::nodes(graph),
+        Table::ByHead => graph::producers(graph),
+        Table::ByBody => graph::producers(graph),
+    }
+}
+
+// How many rows.
+fn rows_in(graph: &[u16], table: Table) -> usize
+    requires { ⌜ Accepted edition1 (now graph) ⌝ }
+    ensures { λ r. ⌜ r ≡ rowsOf (theoryOf (now (graph .entry))) table ⌝ }
+{
+    match table {
+        Table::AtomNodes => graph::atoms(graph),
+        Table::Parents => graph::nodes(graph),
+        Table::ByHead => graph::atoms(graph),
+        Table::ByBody => graph::nodes(graph),
+    }
+}
+
+// Every edge, item by item.
+fn place_all(graph: &[u16], part: &mut [u16], rows: usize, filling: bool, table: Table)
+    requires { ⌜ Accepted edition1 (now graph) ⌝ }
+    requires { ⌜ Follows (Building 65536 filling rows) (now part) 0 (edgesOf (theoryOf (now graph)) table) ⌝ }
+    ensures { λ _. ⌜ Drives (Building 65536 filling rows) 0 (now (part .entry)) 0 (edgesOf (theoryOf (now (graph .entry))) table) (now (part .exit)) 0 [] ⌝ }
+{
+    let n = items(graph, table);
+    let mut i: usize = 0;
+    while i < n {
+        place_item(graph, part, rows, filling, table, i);
+        i += 1;
+    }
+}
+
+// Each row's count becomes its start.
+fn sum(part: &mut [u16], rows: usize)
+    requires { ⌜ (rows + 1 ≤ length (now part)) × (sumOf (now part) rows < 65536) ⌝ }
+    ensures { λ _. ⌜ Summed (now (part .entry)) (now (part .exit)) rows (sumOf (now (part .entry)) rows) ⌝ }
+{
+    let mut total: usize = 0;
+    let mut r: usize = 0;
+    while r < rows {
+        let n = graph::at(part, r + 1);
+        area::put(part, r + 1, total);
+        total += n;
+        r += 1;
+    }
+}
+
+// A table in the lent part: row r is the entries of the edges in row r, in stream order.
+fn build(graph: &[u16], part: &mut [u16], table: Table)
+    requires { ⌜ Accepted edition1 (now graph) × (rowsOf (theoryOf (now graph)) table + 1 + length (edgesOf (theoryOf (now graph)) table) ≤ length (now part)) ⌝ }
+    ensures { λ _. ⌜ Tabled (length (now (part .entry))) (now (part .exit)) 0 (rowsOf (theoryOf (now (graph .entry))) table) (edgesOf (theoryOf (now (graph .entry))) table) ⌝ }
+{
+    let rows = rows_in(graph, table);
+    area::clear(&mut part[..rows + 1]);
+    place_all(graph, part, rows, false, table);
+    sum(part, rows);
+    place_all(graph, part, rows, true, table);
+}
+
+// Where a table begins, and where the next region does.
+fn base(b: Bases, table: Table) -> usize
+    ensures { λ r. ⌜ r ≡ baseOf b table ⌝ }
+{
+    match table {
+        Table::AtomNodes => b.atom_nodes,
+        Table::Parents => b.parents,
+        Table::ByHead => b.by_head,
+        Table::ByBody => b.by_body,
+    }
+}
+
+fn next(b: Bases, table: Table) -> usize
+    ensures { λ r. ⌜ r ≡ nextOf b table ⌝ }
+{
+    match table {
+        Table::AtomNodes => b.parents,
+        Table::Parents => b.by_head,
+        Table::ByHead => b.by_body,
+        Table::ByBody => b.states,
+    }
+}
+
+// A table in its part of the work area.
+pub fn build_in(graph: &[u16], work: &mut [u16], b: Bases, table: Table)
+    requires { ⌜ Accepted edition1 (now graph) × Based (now graph) (length (now work)) b ⌝ }
+    ensures { λ _. ⌜ Built (theoryOf (now (graph .entry))) b table (now (work .entry)) (now (work .exit)) ⌝ }
+{
+    let from = base(b, table);
+    let to = next(b, table);
+    build(graph, &mut work[from..to], table);
+}
+
+// Where the entries of row r begin, in the table of so many rows at base; they end where those of the next row begin.
+pub fn row_start(work: &[u16], base: usize, rows: usize, r: usize) -> usize
+    requires { ⌜ (r ≤ rows) × (base + (rows + 1) ≤ length (now work)) ⌝ }
+    ensures { λ x. ⌜ x ≡ startAt (now (work .entry)) base rows r ⌝ }
+{
+    base + (rows + 1) + graph::at(work, base + r)
+}
+
+// A row's entries.
+pub struct Row {
+    pub from: usize,
+    pub to: usize,
+}
+
+pub fn row_at(work: &[u16], base: usize, rows: usize, r: usize) -> Row
+    requires { ⌜ (r < rows) × (base + (rows + 1) ≤ length (now work)) ⌝ }
+    ensures { λ x. ⌜ (x .from ≡ startAt (now (work .entry)) base rows r) × (x .to ≡ startAt (now (work .entry)) base rows (r + 1)) ⌝ }
+{
+    Row {
+        from: row_start(work, base, rows, r),
+        to: row_start(work, base, rows, r + 1),
+    }
+}

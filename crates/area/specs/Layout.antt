@@ -1,0 +1,47 @@
+-- Where the regions of the work area stand: each ends at or before the next, and the last within the area.
+use mathlib.Core.Path.{_≡_}
+use mathlib.Core.List.{List}
+use Prim.Native.Nat.{ℕ, _+_, _*_, _≤_}
+use lib.ListN.{getD}
+use Rattle.theory.specs.Words.{theoryOf}
+use Rattle.theory.specs.Accepted.{leafEntries, headEntries}
+use Rattle.area.specs.declared.Bases.{Bases}
+
+pub record Laid (b : Bases) : Type 0 where
+  -- row tables: offsets and entries
+  pub atom-nodes : b .«atom_nodes» + (b .atoms + 1 + b .nodes) ≤ b .parents
+  pub parents : b .parents + (b .nodes + 1 + b .«leaf_entries») ≤ b .«by_head»
+  pub by-head : b .«by_head» + (b .atoms + 1 + b .«head_entries») ≤ b .«by_body»
+  pub by-body : b .«by_body» + (b .nodes + 1 + b .producers) ≤ b .states
+  -- a pair a node
+  pub states : b .states + 2 * b .nodes ≤ b .dependencies
+  -- a word a vertex
+  pub dependencies : b .dependencies + (b .atoms + b .nodes) ≤ b .queue
+  pub queue : b .queue + (b .atoms + b .nodes) ≤ b .«body_nodes»
+  pub body-nodes : b .«body_nodes» + (b .atoms + b .nodes) ≤ b .«fact_rows»
+  pub fact-rows : b .«fact_rows» + b .producers ≤ b .«founded_atoms»
+  pub founded-atoms : b .«founded_atoms» + b .atoms ≤ b .«cyclic_atoms»
+  pub cyclic-atoms : b .«cyclic_atoms» + b .atoms ≤ b .end
+
+-- how many words that takes
+abbrev pub wordsFor : (atoms nodes producers leaves heads : ℕ) → ℕ
+wordsFor atoms nodes producers leaves heads = 7 * atoms + 8 * nodes + 2 * producers + leaves + heads + 4
+
+pub record LaidOut (atoms nodes producers leaves heads : ℕ) (b : Bases) : Type 0 where
+  pub laid : Laid b
+  pub atoms-are : b .atoms ≡ atoms
+  pub nodes-are : b .nodes ≡ nodes
+  pub producers-are : b .producers ≡ producers
+  pub leaves-are : b .«leaf_entries» ≡ leaves
+  pub heads-are : b .«head_entries» ≡ heads
+  pub ends : b .end ≤ wordsFor atoms nodes producers leaves heads
+
+-- the bases of a graph in an area of so many words
+pub record Based (ws : List ℕ) (words : ℕ) (b : Bases) : Type 0 where
+  pub laid : Laid b
+  pub atoms : b .atoms ≡ getD ws 1 0
+  pub nodes : b .nodes ≡ getD ws 2 0
+  pub producers : b .producers ≡ getD ws 3 0
+  pub leaves : leafEntries (theoryOf ws) ≤ b .«leaf_entries»
+  pub heads : headEntries (theoryOf ws) ≤ b .«head_entries»
+  pub ends : b .end ≤ words

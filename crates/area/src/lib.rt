@@ -1,0 +1,100 @@
+// The work area's words: storing, clearing, and where the regions begin. A word is read by `graph::at`.
+ghost use mathlib.Core.Path.{_≡_};
+ghost use Prim.Native.Nat.{_+_, _*_, _<_, _^_};
+ghost use lib.ListN.{length, set, replicate};
+ghost use Rattle.theory.specs.Accepted.{Accepted, edition1};
+ghost use Rattle.area.specs.Layout.{wordsFor, LaidOut, Based};
+
+pub fn put(words: &mut [u16], i: usize, x: usize)
+    requires { ⌜ (i < length (now words)) × (x < 65536) ⌝ }
+    ensures { λ _. ⌜ now (words .exit) ≡ set (now (words .entry)) i x ⌝ }
+{
+    words[i] = x as u16;
+}
+
+pub fn clear(words: &mut [u16])
+    ensures { λ _. ⌜ now (words .exit) ≡ replicate (length (now (words .entry))) 0 ⌝ }
+{
+    let mut i: usize = 0;
+    while i < words.len() {
+        words[i] = 0;
+        i += 1;
+    }
+}
+
+// A graph's counts, at most so many leaf entries and head entries, and where each region begins. `founded_atoms` is the Rust's `atoms`.
+pub struct Bases {
+    pub atoms: usize,
+    pub nodes: usize,
+    pub producers: usize,
+    pub leaf_entries: usize,
+    pub head_entries: usize,
+    pub atom_nodes: usize,
+    pub parents: usize,
+    pub by_head: usize,
+    pub by_body: usize,
+    pub states: usize,
+    pub dependencies: usize,
+    pub queue: usize,
+    pub body_nodes: usize,
+    pub fact_rows: usize,
+    pub founded_atoms: usize,
+    pub cyclic_atoms: usize,
+    pub end: usize,
+}
+
+// The regions, one after the other.
+pub fn lay_out(
+    atoms: usize,
+    nodes: usize,
+    producers: usize,
+    leaf_entries: usize,
+    head_entries: usize,
+) -> Bases
+    requires { ⌜ wordsFor atoms nodes producers «leaf_entries» «head_entries» < 2 ^ 63 ⌝ }
+    ensures { λ b. ⌜ LaidOut atoms nodes producers «leaf_entries» «head_entries» b ⌝ }
+{
+    let parents = atoms + 1 + nodes;
+    let by_head = parents + (nodes + 1 + leaf_entries);
+    let by_body = by_head + (atoms + 1 + head_entries);
+    let states = by_body + (nodes + 1 + producers);
+    let dependencies = states + 2 * nodes;
+    let queue = dependencies + (atoms + nodes);
+    let body_nodes = queue + (atoms + nodes);
+    let fact_rows = body_nodes + (atoms + nodes);
+    let founded_atoms = fact_rows + producers;
+    let cyclic_atoms = founded_atoms + atoms;
+    Bases {
+        atoms,
+        nodes,
+        producers,
+        leaf_entries,
+        head_entries,
+        atom_nodes: 0,
+        parents,
+        by_head,
+        by_body,
+        states,
+        dependencies,
+        queue,
+        body_nodes,
+        fact_rows,
+        founded_atoms,
+        cyclic_atoms,
+        end: cyclic_atoms + atoms,
+    }
+}
+
+// Those of an accepted graph.
+pub fn bases_of(graph: &[u16]) -> Bases
+    requires { ⌜ Accepted edition1 (now graph) ⌝ }
+    ensures { λ b. ⌜ Based (now (graph .entry)) 32768 b ⌝ }
+{
+    lay_out(
+        graph::atoms(graph),
+        graph::nodes(graph),
+        graph::producers(graph),
+        4096,
+        4096,
+    )
+}

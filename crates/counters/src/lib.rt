@@ -1,0 +1,32 @@
+// Checked counts in lent words. Where the Rust panics, the callers show that a count stays below a word's limit, and that one that is
+// decremented is above 0.
+ghost use mathlib.Core.Path.{_≡_};
+ghost use Prim.Native.Nat.{_+_, _<_};
+ghost use lib.ListN.{length, getD, set};
+
+pub fn get(counts: &[u16], i: usize) -> usize
+    requires { ⌜ i < length (now counts) ⌝ }
+    ensures { λ r. ⌜ r ≡ getD (now (counts .entry)) i 0 ⌝ }
+{
+    graph::at(counts, i)
+}
+
+// The count before.
+pub fn add(counts: &mut [u16], i: usize, amount: usize) -> usize
+    requires { ⌜ (i < length (now counts)) × (getD (now counts) i 0 + amount < 65536) ⌝ }
+    ensures { λ r. ⌜ (r ≡ getD (now (counts .entry)) i 0) × (now (counts .exit) ≡ set (now (counts .entry)) i (r + amount)) ⌝ }
+{
+    let n = get(counts, i);
+    area::put(counts, i, n + amount);
+    n
+}
+
+// The count that is left.
+pub fn decrement(counts: &mut [u16], i: usize) -> usize
+    requires { ⌜ (i < length (now counts)) × (0 < getD (now counts) i 0) ⌝ }
+    ensures { λ r. ⌜ (r + 1 ≡ getD (now (counts .entry)) i 0) × (now (counts .exit) ≡ set (now (counts .entry)) i r) ⌝ }
+{
+    let n = graph::at(counts, i) - 1;
+    area::put(counts, i, n);
+    n
+}

@@ -1,0 +1,6 @@
+pub mod VisitLaws
+pub mod TurnLaws
+pub mod VertexLaws
+pub mod LoopLaws
+pub mod SetupLaws
+pub mod OutcomeLaws
