@@ -1,0 +1,4 @@
+pub mod GatherLaws
+pub mod TurnLaws
+pub mod FlagLaws
+pub mod StartLaws

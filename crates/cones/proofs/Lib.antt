@@ -1,0 +1,6 @@
+pub mod FindLaws
+pub mod FactLaws
+pub mod SearchLaws
+pub mod BeginLaws
+pub mod HeadLaws
+pub mod RefuseLaws

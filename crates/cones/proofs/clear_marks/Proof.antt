@@ -1,0 +1,43 @@
+use denote.Ref.{now}
+use Rattle.cones.proofs.BeginLaws.{cleared-kept, cleared-marks}
+use borrow.Author.Needs.{needs}
+use Rattle.cones.proofs.clear_marks.Statement.{statement}
+use Rattle.cones.proofs.clear_marks.Tie as tie
+
+mul-clear : tie.Need-mul-clear
+mul-clear c = search needs
+
+sub-clear : tie.Need-sub-clear
+sub-clear c = search needs
+
+part-clear-start : tie.Need-part-clear-start
+part-clear-start c = search needs
+
+part-clear-end : tie.Need-part-clear-end
+part-clear-end c = search needs
+
+clear-requires : tie.Need-clear-requires
+clear-requires c κs = search needs
+
+same-length : tie.Need-same-length
+same-length c = search needs
+
+returns : tie.Need-returns
+returns c =
+    let c-clear = c .before .before .clear in
+    let p1 = c .before .before .before .before .before in
+    let c-pre = p1 .pre in
+    let c-args = p1 .args in
+    (cleared-kept (c-pre .0) (now (c-args .work)) (c-pre .1) (c-clear .ensures), cleared-marks (c-pre .0) (now (c-args .work)) (c-pre .1) (c-clear .ensures))
+
+pub clear-marks-spec : {M : Type 1} → statement M
+clear-marks-spec =
+    tie.close
+    (tie.spec
+    mul-clear
+    sub-clear
+    part-clear-start
+    part-clear-end
+    clear-requires
+    same-length
+    returns)

@@ -1,0 +1,22 @@
+use Rattle.theory.specs.Founded.{cyclicCone}
+use Rattle.cones.specs.Cones.{picked}
+use borrow.Author.Needs.{needs}
+use Rattle.cones.proofs.cyclic_cone.Statement.{statement}
+use Rattle.cones.proofs.cyclic_cone.Tie as tie
+
+find-requires : tie.Need-find-requires
+find-requires c κs =
+    let c-pre = c .before .before .before .pre in
+    ((c-pre .0, c-pre .1), λ e. c-pre .2)
+
+same-length : tie.Need-same-length
+same-length c = search needs
+
+returns : tie.Need-returns
+unfolding cyclicCone picked
+returns c =
+    let c-find = c .before .before .find in
+    (c-find .ensures .1, c-find .ensures .0)
+
+pub cyclic-cone-spec : {M : Type 1} → statement M
+cyclic-cone-spec = tie.close (tie.spec find-requires same-length returns)

@@ -1,0 +1,7 @@
+pub mod MarkLaws
+pub mod SettleLaws
+pub mod GatherLaws
+pub mod VertexLaws
+pub mod TurnLaws
+pub mod FlatLaws
+pub mod RunLaws

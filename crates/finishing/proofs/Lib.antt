@@ -1,0 +1,7 @@
+pub mod MarkLaws
+pub mod CursorLaws
+pub mod PlaceLaws
+pub mod LookLaws
+pub mod ViewLaws
+pub mod StepLaws
+pub mod DescentLaws

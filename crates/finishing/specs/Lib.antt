@@ -1,0 +1,4 @@
+pub mod Marks
+pub mod Finished
+pub mod Cursors
+pub mod Walking

@@ -1,0 +1,54 @@
+-- The contracts of preparation and pass from what they share (`prepares`, `completes`), and what the tests of 10 and 11 leave.
+use mathlib.Core.Path.{_≡_, sym, _∙_}
+use mathlib.Core.Logic.{_≢_}
+use mathlib.Core.Bool.{Bool, true, false}
+use mathlib.Core.List.{List}
+use Prim.Native.Nat.{ℕ}
+use borrow.Author.Tests.{eq-eqb, ne-eqb, eqb-true, not-false}
+use lib.ListN.{length, getD}
+use Rattle.theory.specs.Words.{theoryOf, bitAt}
+use Rattle.theory.specs.Accepted.{edition1}
+use Rattle.theory.specs.Founded.{cyclic, missing}
+use Rattle.theory.proofs.SetLaws.{clash, is-false, or-right}
+use Rattle.mask.specs.Mask.{wordsOf}
+use Rattle.founded.specs.declared.Prepared.{Prepared}
+use Rattle.founded.specs.declared.Completed.{Completed}
+use Rattle.founded.specs.Answers.{preparedOf, completedOf, badMask, badLengths, badWork, prepareAnswer, completeAnswer, Prepares, Completes}
+use Rattle.founded.proofs.OutcomeLaws.{Answered}
+use Rattle.founded.proofs.OutputLaws.{missing-bits}
+
+pub prepares : {ws output work output′ work′ : List ℕ} {r : Prepared}
+    → Answered edition1 ws (badMask (getD ws 1 0) (length output)) (badWork (length work)) (cyclic (theoryOf ws)) output work output′ work′ (preparedOf r)
+    → Prepares ws output work output′ work′ r
+unfolding prepareAnswer
+prepares h = record { answer = h .answer; absorbed = h .absorbed; output-after = h .output-after; work-after = h .work-after }
+
+pub completes : {ws never atomNever output work output′ work′ : List ℕ} {r : Completed}
+    → Answered edition1 ws (badLengths ws (length never) (length atomNever) (length output)) (badWork (length work)) (missing (theoryOf ws) (bitAt never) (bitAt atomNever)) output work output′ work′ (completedOf r)
+    → Completes ws never atomNever output work output′ work′ r
+unfolding completeAnswer
+completes {ws} {never} {atomNever} {r = r} h = record {
+  answer = h .answer;
+  absorbed = h .absorbed;
+  output-after = h .output-after;
+  work-after = h .work-after;
+  demand-3 = λ q a. rw (h .output-after, eq-eqb (completedOf r .number) 0 q) (missing-bits ws (bitAt never) (bitAt atomNever) a);
+}
+
+-- the test of a mask over as many numbers as a count of the header
+pub mask-tested : {r t : Bool} {count k : ℕ} (words : ℕ) → r ≡ badMask count words → count ≡ k → r ≡ t → badMask k words ≡ t
+mask-tested words e q h = rw (← q) (sym e ∙ h)
+
+pub mask-fits : (count words : ℕ) → badMask count words ≡ false → words ≡ wordsOf count
+mask-fits count words e = eqb-true words (wordsOf count) (not-false _ e)
+
+-- the output is one of the three
+pub output-fits : (ws : List ℕ) (n a o : ℕ) → badLengths ws n a o ≡ false → badMask (getD ws 1 0) o ≡ false
+unfolding badLengths
+output-fits ws n a o e = is-false _ (λ t. clash (or-right (badMask (getD ws 2 0) n) _ (or-right (badMask (getD ws 1 0) a) _ t)) e)
+
+pub work-fits : (w : ℕ) → w ≡ 32768 → badWork w ≡ false
+work-fits w e = rw (eq-eqb w 32768 e)
+
+pub work-bad : (w : ℕ) → w ≢ 32768 → badWork w ≡ true
+work-bad w e = rw (ne-eqb w 32768 e)

@@ -1,0 +1,3 @@
+pub mod OutputLaws
+pub mod OutcomeLaws
+pub mod CallLaws

@@ -1,0 +1,4 @@
+pub mod RegionLaws
+pub mod FillLaws
+pub mod InitialLaws
+pub mod StartLaws

@@ -1,0 +1,64 @@
+use mathlib.Core.Path.{_≡_, ap, _∙_}
+use Prim.Native.Nat.{_+_}
+use native.Mathlib.Omega.{arith}
+use denote.Ref.{now}
+use lib.ListN.{length}
+use Rattle.theory.specs.Words.{chain, Ending}
+use Rattle.theory.proofs.ChainLaws.{ending-next, chain-end, chain-step, chain-falls}
+use Rattle.graph.proofs.DecodeLaws.{link-in}
+use Rattle.initialization.proofs.leaf_count.Statement.{statement}
+use Rattle.initialization.proofs.leaf_count.Tie as tie
+use Rattle.initialization.proofs.leaf_count.Reads as reads
+use Rattle.initialization.proofs.leaf_count.Lts as lts
+use Rattle.graph.proofs.next.Reads as next-reads
+
+abbrev Inv-loop : tie.InvT-loop
+Inv-loop graph first n₀ link₀ n link = Ending graph link × (n + length (chain graph link) ≡ length (chain graph first))
+
+abbrev μ-loop : tie.MeasureT-loop
+μ-loop graph first n₀ link₀ n link = length (chain graph link)
+
+loop-holds : tie.Need-loop-holds Inv-loop μ-loop
+loop-holds c =
+    let c-pre = c .before .pre in
+    (c-pre .1, omega arith)
+
+add-n : tie.Need-add-n Inv-loop μ-loop
+add-n c =
+    let c-loop = c .before .loop in
+    let c-args = c .before .before .before .args in
+    let c-pre = c .before .before .before .pre in
+    let e = ap length (chain-step (now (c-args .graph)) (c-loop .inv .0) (λ z. omega arith)) in let k = c-loop .inv .1 in let m = c-pre .2 in omega arith
+
+next-requires : tie.Need-next-requires Inv-loop μ-loop
+next-requires c κs =
+    let c-loop = c .before .loop in
+    let c-pre = c .before .before .before .pre in
+    link-in (c-pre .0) (c-loop .inv .0) (λ z. omega arith)
+
+loop-less : tie.Need-loop-less Inv-loop μ-loop
+loop-less c =
+    let c-next = c .next in
+    let c-loop = c .before .before .loop in
+    let p1 = c .before .before .before .before in
+    let c-args = p1 .args in
+    rw (c-next .ensures) (chain-falls (now (c-args .graph)) (c-loop .inv .0) (λ z. omega arith))
+
+loop-again : tie.Need-loop-again Inv-loop μ-loop
+loop-again c =
+    let c-next = c .next in
+    let c-loop = c .before .before .loop in
+    let p1 = c .before .before .before .before in
+    let c-args = p1 .args in
+    (rw (c-next .ensures) (ending-next (now (c-args .graph)) (c-loop .inv .0) (λ z. omega arith)), let e = ap length (chain-step (now (c-args .graph)) (c-loop .inv .0) (λ z. omega arith)) in let k = c-loop .inv .1 in rw (c-next .ensures) (omega arith))
+
+returns : tie.Need-returns Inv-loop μ-loop
+returns c =
+    let c-loop = c .before .loop in
+    let c-args = c .before .before .before .args in
+    let z : c-loop .link ≡ 0 = omega arith in let e = ap length (ap (chain (now (c-args .graph))) z ∙ chain-end (now (c-args .graph))) in let k = c-loop .inv .1 in omega arith
+
+pub leaf-count-spec : {M : Type 1} → statement M
+leaf-count-spec =
+    tie.close
+    (tie.spec Inv-loop μ-loop loop-holds add-n next-requires loop-less loop-again returns)

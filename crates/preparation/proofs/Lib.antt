@@ -1,0 +1,4 @@
+pub mod RowsLaws
+pub mod WalkLaws
+pub mod PassLaws
+pub mod StageLaws

@@ -1,0 +1,102 @@
+// Preparation and the pass on the work area: row tables, body cone, cyclic atoms; then the cyclic cone, start states and the worklist.
+ghost use mathlib.Core.Path.{_≡_};
+ghost use Prim.Native.Nat.{_+_, _<_, _≤_};
+ghost use lib.ListN.{length, replicate};
+ghost use Rattle.theory.specs.Words.{bitAt};
+ghost use Rattle.theory.specs.Accepted.{Accepted, edition1};
+ghost use Rattle.area.specs.Layout.{Based};
+ghost use Rattle.preparation.specs.Flags.{Marked, Listed};
+ghost use Rattle.preparation.specs.Stages.{Rowed, Onward, Marking, Staged, Passing};
+use adjacency::Table;
+use area::Bases;
+use cones::Coned;
+
+pub enum Marks {
+    Done,
+    Absorbed(u16),
+}
+
+// The four row tables.
+fn build_rows(graph: &[u16], work: &mut [u16], b: Bases)
+    requires { ⌜ Accepted edition1 (now graph) × Based (now graph) (length (now work)) b × length (now work) ≤ 1073741824 ⌝ }
+    ensures { λ _. ⌜ Rowed (now (graph .entry)) b (now (work .entry)) (now (work .exit)) ⌝ }
+{
+    adjacency::build_in(graph, work, b, Table::AtomNodes);
+    adjacency::build_in(graph, work, b, Table::Parents);
+    adjacency::build_in(graph, work, b, Table::ByHead);
+    adjacency::build_in(graph, work, b, Table::ByBody);
+}
+
+fn ones(words: &mut [u16])
+    ensures { λ _. ⌜ now (words .exit) ≡ replicate (length (now (words .entry))) 1 ⌝ }
+{
+    let mut i: usize = 0;
+    while i < words.len() {
+        words[i] = 1;
+        i += 1;
+    }
+}
+
+// Atoms, which are vertices of preparation all of them, and the nodes of the body cone: the cyclic atoms among them.
+fn walk(graph: &[u16], work: &mut [u16], b: Bases)
+    requires { ⌜ Accepted edition1 (now graph) × Onward (now graph) b (now work) ⌝ }
+    ensures { λ _. ⌜ Marking (now (graph .entry)) b (now (work .entry)) (now (work .exit)) ⌝ }
+{
+    let from = b.founded_atoms;
+    let to = from + b.atoms;
+    ones(&mut work[from..to]);
+    components::cyclic_atoms(graph, work, b);
+}
+
+// Row tables, body cone and cyclic atoms.
+fn mark(graph: &[u16], work: &mut [u16], b: Bases) -> Marks
+    requires { ⌜ Accepted edition1 (now graph) × Based (now graph) (length (now work)) b × length (now work) ≤ 1073741824 ⌝ }
+    ensures { λ r. ⌜ Staged (now (graph .entry)) b (now (work .entry)) (now (work .exit)) r ⌝ }
+{
+    build_rows(graph, work, b);
+    match cones::body_cone(graph, work, b) {
+        Coned::Absorbed(n) => Marks::Absorbed(n as u16),
+        Coned::Done(_) => {
+            walk(graph, work, b);
+            Marks::Done
+        }
+    }
+}
+
+// The cyclic atoms, flagged.
+pub fn cyclic_atoms(graph: &[u16], work: &mut [u16], b: Bases) -> Marks
+    requires { ⌜ Accepted edition1 (now graph) × Based (now graph) (length (now work)) b × length (now work) ≤ 1073741824 ⌝ }
+    ensures { λ r. ⌜ Marked (now (graph .entry)) b (now (work .entry)) (now (work .exit)) r ⌝ }
+{
+    mark(graph, work, b)
+}
+
+// The pass: what is founded is settled.
+fn pass(graph: &[u16], never: &[u64], atom_never: &[u64], work: &mut [u16], b: Bases)
+    requires { ⌜ Accepted edition1 (now graph) × Based (now graph) (length (now work)) b × Marking (now graph) b (now work) (now work) ⌝ }
+    ensures { λ _. ⌜ Passing (now (graph .entry)) (bitAt (now (never .entry))) (bitAt (now («atom_never» .entry))) b (now (work .entry)) (now (work .exit)) ⌝ }
+{
+    let c = cones::cyclic_cone(graph, work, b);
+    let first = initialization::start(graph, never, atom_never, work, b, c.nodes, c.facts);
+    events::settle_all(graph, work, b, first);
+}
+
+// The missing atoms, flagged where their counts were.
+pub fn missing(
+    graph: &[u16],
+    never: &[u64],
+    atom_never: &[u64],
+    work: &mut [u16],
+    b: Bases,
+) -> Marks
+    requires { ⌜ Accepted edition1 (now graph) × Based (now graph) (length (now work)) b × length (now work) ≤ 1073741824 ⌝ }
+    ensures { λ r. ⌜ Listed (now (graph .entry)) (bitAt (now (never .entry))) (bitAt (now («atom_never» .entry))) b (now (work .entry)) (now (work .exit)) r ⌝ }
+{
+    match mark(graph, work, b) {
+        Marks::Absorbed(n) => Marks::Absorbed(n),
+        Marks::Done => {
+            pass(graph, never, atom_never, work, b);
+            Marks::Done
+        }
+    }
+}
