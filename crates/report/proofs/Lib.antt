@@ -1,0 +1,5 @@
+pub mod ByteLaws
+pub mod TextLaws
+pub mod CallLaws
+pub mod InputLaws
+pub mod ExampleLaws
