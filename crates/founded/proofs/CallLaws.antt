@@ -5,6 +5,7 @@ use mathlib.Core.Bool.{Bool, true, false}
 use mathlib.Core.List.{List}
 use Prim.Native.Nat.{ℕ}
 use borrow.Author.Tests.{eq-eqb, ne-eqb, eqb-true, not-false}
+use lib.Dec.{eqb}
 use lib.ListN.{length, getD}
 use Rattle.theory.specs.Words.{theoryOf, bitAt}
 use Rattle.theory.specs.Accepted.{edition1}
@@ -12,28 +13,35 @@ use Rattle.theory.specs.Founded.{cyclic, missing}
 use Rattle.theory.proofs.SetLaws.{clash, is-false, or-right}
 use Rattle.mask.specs.Mask.{wordsOf}
 use Rattle.founded.specs.declared.Prepared.{Prepared}
+use Rattle.founded.specs.declared.Prepared.the-variants.{Done}
 use Rattle.founded.specs.declared.Completed.{Completed}
+use Rattle.founded.specs.declared.Completed.the-variants.{Done as AllDone}
 use Rattle.founded.specs.Answers.{preparedOf, completedOf, badMask, badLengths, badWork, prepareAnswer, completeAnswer, Prepares, Completes}
 use Rattle.founded.proofs.OutcomeLaws.{Answered}
 use Rattle.founded.proofs.OutputLaws.{missing-bits}
 
 pub prepares : {ws output work output′ work′ : List ℕ} {r : Prepared}
     → Answered edition1 ws (badMask (getD ws 1 0) (length output)) (badWork (length work)) (cyclic (theoryOf ws)) output work output′ work′ (preparedOf r)
-    → Prepares ws output work output′ work′ r
+    → (preparedOf r .number ≡ 0 → r ≡ Done) → Prepares ws output work output′ work′ r
 unfolding prepareAnswer
-prepares h = record { answer = h .answer; absorbed = h .absorbed; output-after = h .output-after; work-after = h .work-after }
+prepares h d = record { answer = h .answer; done = d; absorbed = h .absorbed; output-after = h .output-after; work-after = h .work-after }
 
 pub completes : {ws never atomNever output work output′ work′ : List ℕ} {r : Completed}
     → Answered edition1 ws (badLengths ws (length never) (length atomNever) (length output)) (badWork (length work)) (missing (theoryOf ws) (bitAt never) (bitAt atomNever)) output work output′ work′ (completedOf r)
-    → Completes ws never atomNever output work output′ work′ r
+    → (completedOf r .number ≡ 0 → r ≡ AllDone) → Completes ws never atomNever output work output′ work′ r
 unfolding completeAnswer
-completes {ws} {never} {atomNever} {r = r} h = record {
+completes {ws} {never} {atomNever} {r = r} h d = record {
   answer = h .answer;
+  done = d;
   absorbed = h .absorbed;
   output-after = h .output-after;
   work-after = h .work-after;
   demand-3 = λ q a. rw (h .output-after, eq-eqb (completedOf r .number) 0 q) (missing-bits ws (bitAt never) (bitAt atomNever) a);
 }
+
+-- a refusal's number is not that of success
+pub not-zero : {A : Type 0} {n : ℕ} → eqb n 0 ≡ false → n ≡ 0 → A
+not-zero {n = n} e q = clash (eq-eqb n 0 q) e
 
 -- the test of a mask over as many numbers as a count of the header
 pub mask-tested : {r t : Bool} {count k : ℕ} (words : ℕ) → r ≡ badMask count words → count ≡ k → r ≡ t → badMask k words ≡ t

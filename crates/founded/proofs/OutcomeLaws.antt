@@ -3,16 +3,17 @@
 use mathlib.Core.Path.{_≡_, refl, sym, _∙_}
 use mathlib.Core.Logic.{_≢_}
 use mathlib.Core.Bool.{Bool, true, false, cond}
-use mathlib.Core.List.{List, [], _∷_, List·Memᴰ·not-nil}
+use mathlib.Core.List.{List, [], _∷_}
 use Prim.Native.Nat.{ℕ, _+_, _<_}
 use native.Mathlib.Omega.{arith}
 use lib.Dec.{eqb}
 use lib.ListN.{length, getD, replicate}
-use Rattle.theory.specs.Sets.{Set, Is, Mem, filled}
+use Rattle.theory.specs.Sets.{Set, Mem, filled}
 use Rattle.theory.specs.Words.{theoryOf}
 use Rattle.theory.specs.Accepted.{Edition}
 use Rattle.theory.specs.Cases.{absorbedIn}
 use Rattle.theory.proofs.SetLaws.{clash, is-eq}
+use Rattle.theory.proofs.ConeLaws.{filled-mem}
 use Rattle.mask.specs.Mask.{pack}
 use Rattle.graph.specs.Answer.{Answer, accept, refuse, refuseIf, orNext, firstRefusal}
 use Rattle.graph.specs.Refusals.{graphRows, graphAnswer, answerOf}
@@ -31,7 +32,7 @@ pub record Answered (ed : Edition) (ws : List ℕ) (lengths area : Bool) (s : Se
   pub work-after : work′ ≡ workLeft (a .number) work
 
 -- the graph's refusals are neither 0 nor 12
-graph-number : (c : Checked) → c ≢ Accepted → (eqb (answerOf c .number) 0 ≡ false) × (eqb (answerOf c .number) 12 ≡ false)
+pub graph-number : (c : Checked) → c ≢ Accepted → (eqb (answerOf c .number) 0 ≡ false) × (eqb (answerOf c .number) 12 ≡ false)
 graph-number Accepted n = absurd (n refl)
 graph-number EditionRefused n = (refl, refl)
 graph-number Counts n = (refl, refl)
@@ -42,11 +43,6 @@ graph-number (Link k) n = (refl, refl)
 graph-number (Leaf k) n = (refl, refl)
 graph-number (Head k) n = (refl, refl)
 graph-number Entries n = (refl, refl)
-
-filled-mem : {n : ℕ} (l : List ℕ) → Mem n l → Is (filled l)
-unfolding filled
-filled-mem [] m = absurd (List·Memᴰ·not-nil m)
-filled-mem (x ∷ l) m = refl
 
 module _ (ed : Edition) (ws : List ℕ) (s : Set) (output work : List ℕ) where
   -- the rows after the graph's
@@ -88,7 +84,7 @@ module _ (ed : Edition) (ws : List ℕ) (s : Set) (output work : List ℕ) where
       pub absorbed-refused : {n : ℕ} → Refused ws work w n → Answered ed ws lengths area s output work output work′ (refuse 12 n)
       unfolding late absorbedRow
       absorbed-refused {n} h = record {
-        answer = sym (later lengths area n ∙ rw (l, r, filled-mem (absorbedIn (theoryOf ws)) (h .place)));
+        answer = sym (later lengths area n ∙ rw (l, r, filled-mem (h .place)));
         absorbed = λ q. h .place;
         output-after = refl;
         work-after = z ∙ rw (h .size);

@@ -73,6 +73,7 @@ workLeft number work = cond (eqb number 0 || eqb number 12) (replicate (length w
 -- preparation: the output lists the cyclic atoms
 pub record Prepares (graph output work output′ work′ : List ℕ) (r : Prepared) : Type 0 where
   pub answer : preparedOf r ≡ prepareAnswer graph (length output) (length work) (preparedOf r .place)
+  pub done : preparedOf r .number ≡ 0 → r ≡ Done
   pub absorbed : preparedOf r .number ≡ 12 → Mem (preparedOf r .place) (absorbedIn (theoryOf graph))
   pub output-after : output′ ≡ outputLeft (preparedOf r .number) (getD graph 1 0) (cyclic (theoryOf graph)) output
   pub work-after : work′ ≡ workLeft (preparedOf r .number) work
@@ -80,6 +81,7 @@ pub record Prepares (graph output work output′ work′ : List ℕ) (r : Prepar
 -- the pass: the output lists the missing atoms
 pub record Completes (graph never atomNever output work output′ work′ : List ℕ) (r : Completed) : Type 0 where
   pub answer : completedOf r ≡ completeAnswer graph (length never) (length atomNever) (length output) (length work) (completedOf r .place)
+  pub done : completedOf r .number ≡ 0 → r ≡ AllDone
   pub absorbed : completedOf r .number ≡ 12 → Mem (completedOf r .place) (absorbedIn (theoryOf graph))
   pub output-after : output′ ≡ outputLeft (completedOf r .number) (getD graph 1 0) (missing (theoryOf graph) (bitAt never) (bitAt atomNever)) output
   pub work-after : work′ ≡ workLeft (completedOf r .number) work

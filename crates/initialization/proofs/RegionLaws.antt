@@ -33,9 +33,6 @@ module _ (m : ℕ) (w w′ : List ℕ) (e : drop m w′ ≡ drop m w) where
   pub behind-at : (i : ℕ) → m ≤ i → getD w′ i 0 ≡ getD w i 0
   behind-at i h = let q : m + (i - m) ≡ i = omega arith in rw (sym q, ← getD-drop m w′ (i - m) 0, ← getD-drop m w (i - m) 0, e) refl
 
-pub outside-wider : {from to : ℕ} {w w′ : List ℕ} → Outside from to w w′ → (k : ℕ) → to ≤ k → Outside from k w w′
-outside-wider {from} {to} {w} {w′} p k h = record { size = p .size; before = p .before; after = behind-more to w w′ (p .after) k h }
-
 -- entry i - 1 of a list behind them: the last of its first i
 module _ (base m : ℕ) (w₀ w : List ℕ) (e : drop m w ≡ drop m w₀) (h : m ≤ base) {i x : ℕ} (p : 0 < i) (ex : x ≡ getD w (base + (i - 1)) 0) where
   entry : x ≡ getD (drop base w₀) (i - 1) 0

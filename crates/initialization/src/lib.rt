@@ -65,7 +65,7 @@ fn push(work: &mut [u16], b: Bases, v: usize, tail: usize) -> usize
 }
 
 // A head of a fact: found if it waits.
-fn state_head(work: &mut [u16], b: Bases, a: usize, tail: usize) -> usize
+fn activate_atom(work: &mut [u16], b: Bases, a: usize, tail: usize) -> usize
     requires { ⌜ (b .atoms + b .nodes ≤ 65536) × Follows (At b) (now work) tail (a ∷ []) ⌝ }
     ensures { λ r. ⌜ Drives (At b) (b .dependencies) (now (work .entry)) tail (a ∷ []) (now (work .exit)) r [] ⌝ }
 {
@@ -77,7 +77,7 @@ fn state_head(work: &mut [u16], b: Bases, a: usize, tail: usize) -> usize
 }
 
 // The heads of a fact.
-fn state_heads(graph: &[u16], work: &mut [u16], b: Bases, p: usize, tail: usize) -> usize
+fn activate_heads(graph: &[u16], work: &mut [u16], b: Bases, p: usize, tail: usize) -> usize
     requires { ⌜ Accepted edition1 (now graph) × Based (now graph) (length (now work)) b × (p < theoryOf (now graph) .producers) ⌝ }
     requires { ⌜ Follows (At b) (now work) tail (theoryOf (now graph) .heads p) ⌝ }
     ensures { λ r. ⌜ Drives (At b) (b .dependencies) (now (work .entry)) tail (theoryOf (now (graph .entry)) .heads p) (now (work .exit)) r [] ⌝ }
@@ -85,14 +85,14 @@ fn state_heads(graph: &[u16], work: &mut [u16], b: Bases, p: usize, tail: usize)
     let mut t = tail;
     let mut l = graph::first_head(graph, p);
     while l > 0 {
-        t = state_head(work, b, graph::value(graph, l), t);
+        t = activate_atom(work, b, graph::value(graph, l), t);
         l = graph::next(graph, l);
     }
     t
 }
 
 // The facts that have a cyclic head.
-fn state_facts(graph: &[u16], work: &mut [u16], b: Bases, facts: usize) -> usize
+fn activate_facts(graph: &[u16], work: &mut [u16], b: Bases, facts: usize) -> usize
     requires { ⌜ Accepted edition1 (now graph) × Based (now graph) (length (now work)) b × (facts ≤ b .producers) × FactsListed (now graph) (factRows b (now work) facts) ⌝ }
     requires { ⌜ Follows (At b) (now work) 0 (flatMap (theoryOf (now graph) .heads) (factRows b (now work) facts)) ⌝ }
     ensures { λ r. ⌜ Drives (At b) (b .dependencies) (now (work .entry)) 0 (flatMap (theoryOf (now (graph .entry)) .heads) (factRows b (now (work .entry)) facts)) (now (work .exit)) r [] ⌝ }
@@ -101,7 +101,7 @@ fn state_facts(graph: &[u16], work: &mut [u16], b: Bases, facts: usize) -> usize
     let mut i = facts;
     while i > 0 {
         i -= 1;
-        t = state_heads(graph, work, b, graph::at(work, b.fact_rows + i), t);
+        t = activate_heads(graph, work, b, graph::at(work, b.fact_rows + i), t);
     }
     t
 }
@@ -248,6 +248,6 @@ pub fn start(
     ensures { λ r. ⌜ Begun (now (graph .entry)) (bitAt (now (never .entry))) (bitAt (now («atom_never» .entry))) b (now (work .entry)) (now (work .exit)) r ⌝ }
 {
     first_counts(atom_never, work, b);
-    let tail = state_facts(graph, work, b, facts);
+    let tail = activate_facts(graph, work, b, facts);
     start_nodes(graph, never, atom_never, work, b, nodes, tail)
 }

@@ -3,9 +3,9 @@
 -- the members are a component (`collect-end`), and a member is on a closed walk exactly if there are two or more (`members-cyclic`).
 use mathlib.Core.Path.{_≡_, refl, sym, ap, _∙_, subst}
 use mathlib.Core.Logic.{_⊎_, inl, inr, _≢_, _↔_}
-use mathlib.Core.Bool.{Bool, true, false}
+use mathlib.Core.Bool.{true, false}
 use mathlib.Core.List.{List, [], _∷_, _++_, List·Memᴰ·head, List·Memᴰ·tail, List·Memᴰ·cases-cons, List·Memᴰ·not-nil, List·Memᴰ·append-cases, Memᴰ·append-left, Memᴰ·append-right}
-use Prim.Native.Nat.{ℕ, zero, suc, _≤_, _<_}
+use Prim.Native.Nat.{ℕ, _<_}
 use native.Mathlib.Omega.{arith}
 use native.Mathlib.Decide.{ℕ-discrete}
 use lib.ListN.{length}
@@ -13,7 +13,7 @@ use Rattle.theory.specs.Sets.{Is, Set, Mem}
 use Rattle.theory.specs.Counts.{Distinct}
 use Rattle.theory.specs.Walks.{Walk}
 use Rattle.theory.specs.Search.{Within, Ordered, Swept, Collecting}
-use Rattle.theory.proofs.SetLaws.{bool-cases, clash}
+use Rattle.theory.proofs.SetLaws.{bool-cases}
 use Rattle.theory.proofs.CountLaws.{pigeonhole}
 use Rattle.theory.proofs.ComponentLaws.{sweep-start, sweep-skip, sweep-next, collect-root, collect-skip, collect-add, component-marks}
 

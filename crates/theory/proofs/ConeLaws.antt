@@ -2,20 +2,20 @@
 -- its own predecessor (`no-self`).
 use mathlib.Core.Path.{_≡_, refl, sym, ap, _∙_, subst}
 use mathlib.Core.Logic.{_⊎_, inl, inr}
-use mathlib.Core.Bool.{Bool, true, false, _&&_, _||_}
-use mathlib.Core.List.{List, [], _∷_, List·Memᴰ·head, List·Memᴰ·tail, List·Memᴰ·not-nil, List·Memᴰ·eq-of-singleton, Memᴰ·of-map, map}
-use Prim.Native.Nat.{ℕ, zero, suc, _+_, _-_, _≤_, _<_}
+use mathlib.Core.Bool.{Bool, _||_}
+use mathlib.Core.List.{List, List·Memᴰ·head, List·Memᴰ·tail, List·Memᴰ·not-nil, List·Memᴰ·eq-of-singleton, Memᴰ·of-map, map}
+use Prim.Native.Nat.{ℕ, _+_, _-_, _≤_, _<_}
 use native.Mathlib.Omega.{arith}
 use native.Mathlib.Decide.{decLt}
-use lib.Dec.{ltb, ltb→lt, lt→ltb}
+use lib.Dec.{ltb, lt→ltb}
 use Rattle.theory.specs.Sets.{Is, Set, everyone, Mem, filled}
 use Rattle.theory.specs.Theory.{Theory, WellFormed, Kind, False, Atom, And, Or, Opaque, Absorbed, joins}
 use Rattle.theory.specs.Edges.{vertices, inputs, preds, bodyCone, inGraph, conePreds}
 use Rattle.theory.specs.Search.{Within}
-use Rattle.theory.proofs.SetLaws.{is-T, T-is, is-false, bool-cases, clash, or-cases, or-left, or-right}
-use Rattle.theory.proofs.EdgeLaws.{BodyOf, preds-atom, preds-node, preds-vertex, edge-atom, past, less, cone-body, cone-leaf, cone-bound}
+use Rattle.theory.proofs.SetLaws.{T-is, or-left}
+use Rattle.theory.proofs.EdgeLaws.{preds-atom, preds-node, preds-vertex, edge-atom, past, less, cone-body, cone-leaf, cone-bound}
 
-filled-mem : {a : ℕ} {l : List ℕ} → Mem a l → Is (filled l)
+pub filled-mem : {a : ℕ} {l : List ℕ} → Mem a l → Is (filled l)
 unfolding filled
 filled-mem (List·Memᴰ·head e) = refl
 filled-mem (List·Memᴰ·tail m) = refl

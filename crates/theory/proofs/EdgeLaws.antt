@@ -9,7 +9,7 @@ use native.Mathlib.Nat.{not-suc-le-zero}
 use native.Mathlib.Omega.{arith}
 use native.Mathlib.Decide.{ℕ-discrete}
 use lib.Dec.{eqb, ltb, ltb→lt, nltb→le, lt→ltb}
-use Rattle.theory.specs.Sets.{Is, Set, _⊆_, everyone, Mem, member}
+use Rattle.theory.specs.Sets.{Is, Set, _⊆_, Mem, member}
 use Rattle.theory.specs.Least.{has, least}
 use Rattle.theory.specs.Theory.{Theory, joins}
 use Rattle.theory.specs.Edges.{occurrences, bodyEntries, bodiesBelow, inputs, predsBy, preds, isBody, isLeaf, coneStep, cone}

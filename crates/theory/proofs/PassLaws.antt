@@ -7,12 +7,12 @@ use mathlib.Core.List.{List, [], _∷_, map, List·Memᴰ·head, List·Memᴰ·e
 use Prim.Native.Nat.{ℕ, zero, suc, _+_, _-_, _<_}
 use native.Mathlib.Omega.{arith}
 use lib.Dec.{eqb, ltb, ltb→lt, lt→ltb}
-use Rattle.theory.specs.Sets.{Is, Set, everyone, Mem, any, member, anyBelow}
+use Rattle.theory.specs.Sets.{Is, Set, everyone, Mem, any, member}
 use Rattle.theory.specs.Theory.{Theory, WellFormed, Kind, False, Atom, And, Or, Opaque, Absorbed, joins}
 use Rattle.theory.specs.Edges.{vertices, inputs, preds}
 use Rattle.theory.specs.Truth.{holds, truthIn, truth, fires}
 use Rattle.theory.specs.Founded.{cyclic, cyclicCone, atomTruth, founded}
-use Rattle.theory.specs.Closure.{Mode, dead, free, single, every, fired}
+use Rattle.theory.specs.Closure.{Mode, free, single, fired}
 use Rattle.theory.specs.Pass.{live, kindMode, stated, atomMode, nodeMode, passMode, passed, Enough}
 use Rattle.theory.proofs.SetLaws.{is-T, T-is, not-false, not-true, clash, any-found, any-holds, all-at, all-holds, mem-member, member-mem, below-found, below-holds, eq-is, is-eq, and-intro, and-left, and-right, or-cases, or-left, or-right}
 use Rattle.theory.proofs.EdgeLaws.{preds-node, edge-atom, past, less, cone-body, cone-leaf}

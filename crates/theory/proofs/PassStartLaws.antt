@@ -18,7 +18,7 @@ use Rattle.theory.specs.Founded.{cyclic}
 use Rattle.theory.specs.Closure.{Mode, dead, free, single}
 use Rattle.theory.specs.Pass.{live, kindMode, stated, atomMode, nodeMode, passMode}
 use Rattle.theory.specs.Starting.{waits, firstCount, Starting}
-use Rattle.theory.proofs.SetLaws.{clash, is-false, bool-cases, any-holds, and-intro, and-left, and-right}
+use Rattle.theory.proofs.SetLaws.{clash, is-false, bool-cases, any-holds, and-left}
 use Rattle.theory.proofs.EdgeLaws.{preds-node}
 use Rattle.theory.proofs.RowLaws.{flat-item, flat-mem}
 use Rattle.theory.proofs.CycleLaws.{cyclic-walk}

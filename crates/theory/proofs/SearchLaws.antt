@@ -2,15 +2,15 @@
 -- `search-known`, `search-new`, `search-finish`); at the end the vertices are in a finishing order (`search-end`).
 use mathlib.Core.Path.{_≡_, refl, sym, ap, _∙_, subst}
 use mathlib.Core.Logic.{_⊎_, inl, inr, _≢_}
-use mathlib.Core.Bool.{Bool, true, false}
+use mathlib.Core.Bool.{false}
 use mathlib.Core.List.{List, [], _∷_, List·Memᴰ·head, List·Memᴰ·tail, List·Memᴰ·cases-cons, List·Memᴰ·not-nil}
-use Prim.Native.Nat.{ℕ, zero, suc, _≤_, _<_}
+use Prim.Native.Nat.{ℕ, _≤_, _<_}
 use native.Mathlib.Omega.{arith}
 use native.Mathlib.Decide.{ℕ-discrete}
 use lib.ListN.{length}
 use Rattle.theory.specs.Sets.{Is, Set, Mem}
 use Rattle.theory.specs.Components.{Stacked}
-use Rattle.theory.specs.Search.{Within, Searching, Ordered}
+use Rattle.theory.specs.Search.{Searching, Ordered}
 use Rattle.theory.proofs.CountLaws.{pigeonhole}
 use Rattle.theory.proofs.ComponentLaws.{descent-empty, descent-skip, descent-push, descent-finish}
 

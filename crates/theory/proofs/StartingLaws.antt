@@ -3,13 +3,13 @@
 use mathlib.Core.Path.{_≡_, refl, sym, ap, _∙_, subst}
 use mathlib.Core.Logic.{_⊎_, inl, inr, _≢_, _↔_}
 use mathlib.Core.List.{List, [], _∷_, List·Memᴰ·head, List·Memᴰ·tail, List·Memᴰ·cases-cons, List·Memᴰ·not-nil}
-use Prim.Native.Nat.{ℕ, zero, suc, _<_}
+use Prim.Native.Nat.{ℕ, _<_}
 use native.Mathlib.Omega.{arith}
 use native.Mathlib.Decide.{ℕ-discrete}
 use lib.ListN.{length}
 use Rattle.theory.specs.Sets.{Mem}
 use Rattle.theory.specs.Counts.{Distinct}
-use Rattle.theory.specs.Closure.{Mode, dead, free, single, every}
+use Rattle.theory.specs.Closure.{Mode, dead, free}
 use Rattle.theory.specs.Worklist.{Started}
 use Rattle.theory.specs.Starting.{waits, Settled, Due, Starting}
 use Rattle.theory.proofs.CountLaws.{pigeonhole}

@@ -2,18 +2,17 @@
 -- `entry-found`), and the end: what is found is the closure (`worklist-end`).
 use mathlib.Core.Path.{_≡_, refl, sym, ap, _∙_, subst}
 use mathlib.Core.Logic.{_⊎_, inl, inr, _≢_}
-use mathlib.Core.Bool.{Bool, true, false}
 use mathlib.Core.List.{List, [], _∷_, List·Memᴰ·head, List·Memᴰ·tail, List·Memᴰ·cases-cons, List·Memᴰ·not-nil}
-use Prim.Native.Nat.{ℕ, zero, suc, _+_, _≤_, _<_, zero-le}
+use Prim.Native.Nat.{ℕ, suc, _+_, _≤_, _<_}
 use native.Mathlib.Omega.{arith}
 use native.Mathlib.Decide.{ℕ-discrete}
 use lib.ListN.{length}
 use Rattle.theory.specs.Sets.{Is, Set, Mem, any, member}
-use Rattle.theory.specs.Counts.{countIn, occ, Distinct}
+use Rattle.theory.specs.Counts.{countIn, occ}
 use Rattle.theory.specs.Closure.{Mode, dead, free, single, every, fired, closure}
 use Rattle.theory.specs.Worklist.{Started, Worklist}
 use Rattle.theory.proofs.SetLaws.{any-found, any-holds, all-at, all-holds, mem-member, member-mem, clash}
-use Rattle.theory.proofs.CountLaws.{occ-same, occ-other, occ-mem, count-le, count-all, count-full, member-more, pigeonhole}
+use Rattle.theory.proofs.CountLaws.{occ-same, occ-other, count-le, count-all, count-full, member-more, pigeonhole}
 use Rattle.theory.proofs.ClosureLaws.{closure-closed, closure-induct}
 
 none : (l : List ℕ) → countIn (λ u. member u []) l ≡ 0

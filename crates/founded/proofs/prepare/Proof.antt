@@ -1,13 +1,15 @@
-use mathlib.Core.Path.{sym, ap, _∙_}
+use mathlib.Core.Path.{refl, sym, ap, _∙_}
+use mathlib.Core.Logic.{_≢_}
 use mathlib.Core.List.{[], _∷_}
 use native.Mathlib.Omega.{arith}
 use denote.Ref.{now}
 use types.Run.{miss}
 use Rattle.theory.specs.Accepted.{edition1}
 use Rattle.graph.specs.Refusals.{answerOf}
+use Rattle.graph.specs.declared.Checked.the-variants.{Accepted}
 use Rattle.graph.proofs.AcceptedLaws.{accepted}
-use Rattle.founded.proofs.OutcomeLaws.{graph-refused, lengths-refused, work-refused}
-use Rattle.founded.proofs.CallLaws.{prepares, mask-tested, work-bad}
+use Rattle.founded.proofs.OutcomeLaws.{graph-number, graph-refused, lengths-refused, work-refused}
+use Rattle.founded.proofs.CallLaws.{not-zero, prepares, mask-tested, work-bad}
 use borrow.Author.Needs.{needs}
 use Rattle.founded.proofs.prepare.Statement.{statement}
 use Rattle.founded.proofs.prepare.Tie as tie
@@ -22,7 +24,8 @@ returns : tie.Need-returns
 returns c =
     let c-match = c .match in
     let c-check = c .before .check in
-    prepares (graph-refused edition1 _ _ _ _ {c = c-check .result} (c-check .ensures) (λ e. miss (1 ∷ 2 ∷ 3 ∷ 4 ∷ 5 ∷ 6 ∷ 7 ∷ 8 ∷ 9 ∷ []) 0 tt (rw e at (c-match .keys2))))
+    let refused : c-check .result ≢ Accepted = λ e. miss (1 ∷ 2 ∷ 3 ∷ 4 ∷ 5 ∷ 6 ∷ 7 ∷ 8 ∷ 9 ∷ []) 0 tt (rw e at (c-match .keys2)) in
+    prepares (graph-refused edition1 _ _ _ _ (c-check .ensures) refused) (not-zero (graph-number _ refused .0))
 
 atoms-requires : tie.Need-atoms-requires
 atoms-requires c κs =
@@ -43,7 +46,7 @@ returns-2 c =
     let c-enum-told = c .before .before .before .enum-told in
     let p1 = c .before .before .before .before .before in
     let c-check = p1 .check in
-    prepares (lengths-refused edition1 _ _ _ _ (sym (c-check .ensures) ∙ ap answerOf (c-enum-told .given .1)) (mask-tested _ (c-bad-mask .ensures) (c-atoms .ensures) (c-if1 .taken)))
+    prepares (lengths-refused edition1 _ _ _ _ (sym (c-check .ensures) ∙ ap answerOf (c-enum-told .given .1)) (mask-tested _ (c-bad-mask .ensures) (c-atoms .ensures) (c-if1 .taken))) (not-zero refl)
 
 returns-3 : tie.Need-returns-3
 returns-3 c =
@@ -54,7 +57,7 @@ returns-3 c =
     let p1 = c .before .before .before .before in
     let c-enum-told = p1 .enum-told in
     let c-check = p1 .before .before .check in
-    prepares (work-refused edition1 _ _ _ _ (sym (c-check .ensures) ∙ ap answerOf (c-enum-told .given .1)) (mask-tested _ (c-bad-mask .ensures) (c-atoms .ensures) (c-if1 .left)) (work-bad _ (c-if2 .taken)))
+    prepares (work-refused edition1 _ _ _ _ (sym (c-check .ensures) ∙ ap answerOf (c-enum-told .given .1)) (mask-tested _ (c-bad-mask .ensures) (c-atoms .ensures) (c-if1 .left)) (work-bad _ (c-if2 .taken))) (not-zero refl)
 
 prepare-accepted-requires : tie.Need-prepare-accepted-requires
 prepare-accepted-requires c κs =

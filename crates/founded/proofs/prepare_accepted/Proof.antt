@@ -1,11 +1,11 @@
-use mathlib.Core.Path.{_∙_}
+use mathlib.Core.Path.{refl, _∙_}
 use native.Mathlib.Omega.{arith}
 use denote.Ref.{now}
 use Rattle.theory.specs.Accepted.{edition1}
 use Rattle.graph.proofs.AcceptedLaws.{accepted}
 use Rattle.preparation.specs.Flags.{Marked}
 use Rattle.founded.proofs.OutcomeLaws.{absorbed-refused, done}
-use Rattle.founded.proofs.CallLaws.{prepares, mask-fits, work-fits}
+use Rattle.founded.proofs.CallLaws.{not-zero, prepares, mask-fits, work-fits}
 use borrow.Author.Needs.{needs}
 use Rattle.founded.proofs.prepare_accepted.Statement.{statement}
 use Rattle.founded.proofs.prepare_accepted.Tie as tie
@@ -66,6 +66,7 @@ returns c =
     let k = rw (c-enum-told .given .1) at (c-cyclic-atoms .ensures) in
     prepares
     (done edition1 _ _ _ _ (c-pre .0) (c-pre .1) (work-fits _ (c-pre .2)) w (c-hand-out .ensures .1) (c-bases-of .result .«cyclic_atoms») (c-bases-of .ensures .atoms) (k .size) (k .none) (k .flags) (c-hand-out .ensures .0))
+    (λ q. refl)
 
 same-length-3 : tie.Need-same-length-3
 same-length-3 c = search needs
@@ -80,7 +81,7 @@ returns-2 c =
     let c-cyclic-atoms = p2 .cyclic-atoms in
     let p3 = p2 .before .before .before .before .before .before in
     let c-pre = p3 .pre in
-    prepares (absorbed-refused edition1 _ _ _ _ (c-pre .0) (c-pre .1) (work-fits _ (c-pre .2)) _ (c-clear .ensures) (rw (c-marks .given .1) at (c-cyclic-atoms .ensures)))
+    prepares (absorbed-refused edition1 _ _ _ _ (c-pre .0) (c-pre .1) (work-fits _ (c-pre .2)) _ (c-clear .ensures) (rw (c-marks .given .1) at (c-cyclic-atoms .ensures))) (not-zero refl)
 
 pub prepare-accepted-spec : {M : Type 1} → statement M
 prepare-accepted-spec =

@@ -9,14 +9,14 @@ use Rattle.theory.proofs.ChainLaws.{ending-next, chain-end, chain-falls}
 use Rattle.theory.proofs.DriveLaws.{drives-none, follows-next, drives-step, chain-turn}
 use Rattle.graph.proofs.DecodeLaws.{the-producers, the-heads, link-in}
 use Rattle.initialization.specs.Start.{At}
-use Rattle.initialization.proofs.state_heads.Statement.{statement}
-use Rattle.initialization.proofs.state_heads.Tie as tie
-use Rattle.initialization.proofs.state_heads.Reads as reads
-use Rattle.initialization.proofs.state_heads.Lts as lts
+use Rattle.initialization.proofs.activate_heads.Statement.{statement}
+use Rattle.initialization.proofs.activate_heads.Tie as tie
+use Rattle.initialization.proofs.activate_heads.Reads as reads
+use Rattle.initialization.proofs.activate_heads.Lts as lts
 use Rattle.graph.proofs.first_head.Reads as first-head-reads
 use Rattle.graph.proofs.next.Reads as next-reads
 use Rattle.graph.proofs.value.Reads as value-reads
-use Rattle.initialization.proofs.state_head.Reads as state-head-reads
+use Rattle.initialization.proofs.activate_atom.Reads as activate-atom-reads
 
 abbrev Inv-loop : tie.InvT-loop
 Inv-loop graph work₀ b p tail t₀ l₀ work t l = Ending graph l × Drives (At b) (b .dependencies) work₀ tail (theoryOf graph .heads p) work t (chain graph l)
@@ -44,8 +44,8 @@ value-requires c κs =
     let c-pre = p1 .pre in
     link-in (c-pre .0 .0) (c-loop .inv .0) (λ z. omega arith)
 
-state-head-requires : tie.Need-state-head-requires Inv-loop μ-loop
-state-head-requires c κs =
+activate-atom-requires : tie.Need-activate-atom-requires Inv-loop μ-loop
+activate-atom-requires c κs =
     let c-value = c .value in
     let c-loop = c .before .before .before .loop in
     let p1 = c .before .before .before .before .before .before .before in
@@ -73,13 +73,13 @@ loop-less c =
 loop-again : tie.Need-loop-again Inv-loop μ-loop
 loop-again c =
     let c-next = c .next in
-    let c-state-head = c .before .before .before .state-head in
+    let c-activate-atom = c .before .before .before .activate-atom in
     let p1 = c .before .before .before .before in
     let c-value = p1 .value in
     let c-loop = p1 .before .before .before .loop in
     let p2 = p1 .before .before .before .before .before .before .before in
     let c-args = p2 .args in
-    (rw (c-next .ensures) (ending-next (now (c-args .graph)) (c-loop .inv .0) (λ z. omega arith)), drives-step (At (c-args .b)) (c-value .result ∷ []) (chain (now (c-args .graph)) (c-next .result)) (chain-turn (now (c-args .graph)) (c-loop .inv .0) (λ z. omega arith) (c-value .ensures) (c-next .ensures)) (c-loop .inv .1) (c-state-head .ensures))
+    (rw (c-next .ensures) (ending-next (now (c-args .graph)) (c-loop .inv .0) (λ z. omega arith)), drives-step (At (c-args .b)) (c-value .result ∷ []) (chain (now (c-args .graph)) (c-next .result)) (chain-turn (now (c-args .graph)) (c-loop .inv .0) (λ z. omega arith) (c-value .ensures) (c-next .ensures)) (c-loop .inv .1) (c-activate-atom .ensures))
 
 same-length : tie.Need-same-length Inv-loop μ-loop
 same-length c =
@@ -93,8 +93,8 @@ returns c =
     let c-args = p1 .args in
     let e : c-loop .l ≡ 0 = omega arith in rw (ap (chain (now (c-args .graph))) e ∙ chain-end (now (c-args .graph))) at (c-loop .inv .1)
 
-pub state-heads-spec : {M : Type 1} → statement M
-state-heads-spec =
+pub activate-heads-spec : {M : Type 1} → statement M
+activate-heads-spec =
     tie.close
     (tie.spec
     Inv-loop
@@ -102,7 +102,7 @@ state-heads-spec =
     first-head-requires
     loop-holds
     value-requires
-    state-head-requires
+    activate-atom-requires
     next-requires
     loop-less
     loop-again

@@ -1,5 +1,5 @@
 use mathlib.Core.Path.{_≡_, refl, ap}
-use Prim.Native.Nat.{_-_, _≤_}
+use Prim.Native.Nat.{_≤_}
 use native.Mathlib.Omega.{arith}
 use denote.Ref.{now}
 use Rattle.theory.specs.Words.{theoryOf}
@@ -12,12 +12,12 @@ use Rattle.initialization.specs.Start.{At}
 use Rattle.initialization.proofs.RegionLaws.{listed-turn, listed-mem}
 use Rattle.initialization.proofs.StartLaws.{behind}
 use borrow.Author.Needs.{needs}
-use Rattle.initialization.proofs.state_facts.Statement.{statement}
-use Rattle.initialization.proofs.state_facts.Tie as tie
-use Rattle.initialization.proofs.state_facts.Reads as reads
-use Rattle.initialization.proofs.state_facts.Lts as lts
+use Rattle.initialization.proofs.activate_facts.Statement.{statement}
+use Rattle.initialization.proofs.activate_facts.Tie as tie
+use Rattle.initialization.proofs.activate_facts.Reads as reads
+use Rattle.initialization.proofs.activate_facts.Lts as lts
 use Rattle.graph.proofs.at.Reads as at-reads
-use Rattle.initialization.proofs.state_heads.Reads as state-heads-reads
+use Rattle.initialization.proofs.activate_heads.Reads as activate-heads-reads
 
 abbrev Inv-loop : tie.InvT-loop
 Inv-loop graph work₀ b facts t₀ i₀ work t i = (i ≤ facts) × Drives (At b) (b .dependencies) work₀ 0 (flatMap (theoryOf graph .heads) (factRows b work₀ facts)) work t (flatMap (theoryOf graph .heads) (factRows b work₀ i))
@@ -46,9 +46,9 @@ at-requires c κs =
     let c-pre = p1 .before .before .before .pre in
     let m = c-pre .0 .1 in let l = m .laid in let e = c-loop .inv .1 .size in omega arith
 
-state-heads-requires : tie.Need-state-heads-requires Inv-loop μ-loop
+activate-heads-requires : tie.Need-activate-heads-requires Inv-loop μ-loop
 unfolding flatMap
-state-heads-requires c κs =
+activate-heads-requires c κs =
     let c-at = c .at in
     let p1 = c .before .before .before .before in
     let c-loop-test = p1 .loop-test in
@@ -69,7 +69,7 @@ loop-less c = search needs
 loop-again : tie.Need-loop-again Inv-loop μ-loop
 unfolding flatMap
 loop-again c =
-    let c-state-heads = c .before .before .state-heads in
+    let c-activate-heads = c .before .before .activate-heads in
     let c-at = c .before .before .before .at in
     let p1 = c .before .before .before .before .before .before .before in
     let c-loop-test = p1 .loop-test in
@@ -80,7 +80,7 @@ loop-again c =
     let l = c-pre .0 .1 .laid in
     let e = behind (c-pre .1) (c-loop .inv .1) in (
       omega arith,
-      turn-more (At (c-args .b)) (flatMap (theoryOf (now (c-args .graph)) .heads)) (theoryOf (now (c-args .graph)) .heads) (λ x xs. refl) (c-loop .inv .1) (listed-turn (c-args .b .«fact_rows») (c-args .b .«body_nodes») (now (c-args .work)) (c-loop .work) e (omega arith) (c-loop-test .taken) (c-at .ensures .0)) (c-state-heads .ensures),
+      turn-more (At (c-args .b)) (flatMap (theoryOf (now (c-args .graph)) .heads)) (theoryOf (now (c-args .graph)) .heads) (λ x xs. refl) (c-loop .inv .1) (listed-turn (c-args .b .«fact_rows») (c-args .b .«body_nodes») (now (c-args .work)) (c-loop .work) e (omega arith) (c-loop-test .taken) (c-at .ensures .0)) (c-activate-heads .ensures),
     )
 
 same-length : tie.Need-same-length Inv-loop μ-loop
@@ -96,8 +96,8 @@ returns c =
     let c-args = p1 .args in
     let z : c-loop .i ≡ 0 = omega arith in turn-done (At (c-args .b)) (flatMap (theoryOf (now (c-args .graph)) .heads)) (theoryOf (now (c-args .graph)) .heads) (λ x xs. refl) (c-loop .inv .1) (ap (factRows (c-args .b) (now (c-args .work))) z) refl
 
-pub state-facts-spec : {M : Type 1} → statement M
-state-facts-spec =
+pub activate-facts-spec : {M : Type 1} → statement M
+activate-facts-spec =
     tie.close
     (tie.spec
     Inv-loop
@@ -106,7 +106,7 @@ state-facts-spec =
     sub-i
     add-at
     at-requires
-    state-heads-requires
+    activate-heads-requires
     loop-less
     loop-again
     same-length

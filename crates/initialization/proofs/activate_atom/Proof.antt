@@ -2,10 +2,10 @@ use mathlib.Core.Path.{sym, _∙_}
 use native.Mathlib.Omega.{arith}
 use Rattle.initialization.proofs.StartLaws.{head-ready, head-fits, head-passes, head-pushes}
 use borrow.Author.Needs.{needs}
-use Rattle.initialization.proofs.state_head.Statement.{statement}
-use Rattle.initialization.proofs.state_head.Tie as tie
-use Rattle.initialization.proofs.state_head.Reads as reads
-use Rattle.initialization.proofs.state_head.Lts as lts
+use Rattle.initialization.proofs.activate_atom.Statement.{statement}
+use Rattle.initialization.proofs.activate_atom.Tie as tie
+use Rattle.initialization.proofs.activate_atom.Reads as reads
+use Rattle.initialization.proofs.activate_atom.Lts as lts
 use Rattle.area.proofs.put.Reads as put-reads
 use Rattle.graph.proofs.at.Reads as at-reads
 use Rattle.initialization.proofs.push.Reads as push-reads
@@ -65,8 +65,8 @@ returns-2 c =
     let c-pre = p3 .pre in
     rw (c-push .ensures .0, c-push .ensures .1, c-put .ensures) (head-pushes (c-pre .1) (let e = c-at .ensures .0 in let n = c-if1 .left in omega arith))
 
-pub state-head-spec : {M : Type 1} → statement M
-state-head-spec =
+pub activate-atom-spec : {M : Type 1} → statement M
+activate-atom-spec =
     tie.close
     (tie.spec
     add-at
