@@ -1,3 +1,4 @@
 pub mod PartLaws
 pub mod LayoutLaws
 pub mod ListLaws
+pub mod MarkLaws

@@ -3,7 +3,8 @@ ghost use mathlib.Core.Path.{_≡_};
 ghost use Prim.Native.Nat.{_+_, _*_, _<_, _^_};
 ghost use lib.ListN.{length, set, replicate};
 ghost use Rattle.theory.specs.Accepted.{Accepted, edition1};
-ghost use Rattle.area.specs.Layout.{wordsFor, LaidOut, Based};
+ghost use Rattle.area.specs.Layout.{wordsFor, Laid, LaidOut, Based};
+ghost use Rattle.area.specs.Marks.{markOf};
 
 pub fn put(words: &mut [u16], i: usize, x: usize)
     requires { ⌜ (i < length (now words)) × (x < 65536) ⌝ }
@@ -97,4 +98,15 @@ pub fn bases_of(graph: &[u16]) -> Bases
         4096,
         4096,
     )
+}
+
+// Where the mark of a vertex stands.
+pub fn mark(b: Bases, v: usize) -> usize
+    requires { ⌜ Laid b × (v < b .atoms + b .nodes) × (b .end < 2 ^ 64) ⌝ }
+    ensures { λ r. ⌜ r ≡ markOf b v ⌝ }
+{
+    if v < b.atoms {
+        return b.founded_atoms + v;
+    }
+    b.states + 2 * (v - b.atoms)
 }

@@ -23,8 +23,9 @@ use Rattle.graph.proofs.DecodeLaws.{the-atoms}
 use Rattle.area.specs.declared.Bases.{Bases}
 use Rattle.area.specs.Layout.{Based}
 use Rattle.area.proofs.PartLaws.{frame-at}
-use Rattle.events.specs.Held.{markOf, markAt, queued}
-use Rattle.events.proofs.MarkLaws.{mark-place}
+use Rattle.events.specs.Held.{queued}
+use Rattle.area.specs.Marks.{markOf, markIn}
+use Rattle.area.proofs.MarkLaws.{mark-place}
 use Rattle.events.proofs.VertexLaws.{tables-same}
 use Rattle.components.specs.Classes.{Classifying, Flagged, Component, Sweeping, Gathered, Classified, ordered, flagAt, flagMember}
 use Rattle.components.proofs.GatherLaws.{queued-same, ordered-same}
@@ -116,8 +117,8 @@ module _ {ws : List ℕ} {b : Bases} {words : ℕ} (based : Based ws words b) wh
     pub flags-queue : (n : ℕ) → n ≤ b .atoms + b .nodes → queued b w′ n ≡ queued b w n
     flags-queue n h = let q = based .laid in queued-same b n w w′ (λ i l. flags-before (b .queue + i) (omega arith))
 
-    marks-same : (v : ℕ) → v < b .atoms + b .nodes → markAt b w′ v ≡ markAt b w v
-    marks-same v l = go (mark-place b (based .laid) v l .2)
+    marks-same : (v : ℕ) → v < b .atoms + b .nodes → markIn b w′ v ≡ markIn b w v
+    marks-same v l = go (mark-place (based .laid) v l .2)
       where
         go : (markOf b v < b .dependencies) ⊎ ((b .«founded_atoms» ≤ markOf b v) × (markOf b v < b .«cyclic_atoms»)) → getD w′ (markOf b v) 0 ≡ getD w (markOf b v) 0
         go (inl p) = let q = based .laid in flags-before (markOf b v) (omega arith)
@@ -142,7 +143,7 @@ module _ {ws : List ℕ} {b : Bases} {words : ℕ} (based : Based ws words b) wh
         order : ordered b w′ n ≡ ordered b w n
         order = let q = based .laid in let k = s .fits in ordered-same b n w w′ (λ i l. flags-before (b .«body_nodes» + i) (omega arith))
 
-        unmet : (v : ℕ) → v < b .atoms + b .nodes → (markAt b w v ≡ 2) ⊎ (markAt b w v ≡ 3) → (markAt b w′ v ≡ 2) ⊎ (markAt b w′ v ≡ 3)
+        unmet : (v : ℕ) → v < b .atoms + b .nodes → (markIn b w v ≡ 2) ⊎ (markIn b w v ≡ 3) → (markIn b w′ v ≡ 2) ⊎ (markIn b w′ v ≡ 3)
         unmet v l (inl e) = inl (marks-same v l ∙ e)
         unmet v l (inr e) = inr (marks-same v l ∙ e)
 

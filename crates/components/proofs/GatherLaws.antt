@@ -22,8 +22,9 @@ use Rattle.theory.proofs.PrefixLaws.{upto-same, upto-length}
 use Rattle.graph.proofs.DecodeLaws.{the-atoms, the-nodes}
 use Rattle.area.specs.declared.Bases.{Bases}
 use Rattle.area.specs.Layout.{Based}
-use Rattle.events.specs.Held.{markOf, markAt, queued}
-use Rattle.events.proofs.MarkLaws.{mark-place, mark-apart}
+use Rattle.events.specs.Held.{queued}
+use Rattle.area.specs.Marks.{markOf, markIn}
+use Rattle.area.proofs.MarkLaws.{mark-place, mark-apart}
 use Rattle.components.specs.Classes.{Classifying, Kept, Gathered, Searched, ordered}
 
 -- the queue and the order as lists, in words that agree on them
@@ -75,7 +76,7 @@ module _ {ws : List ℕ} {ed : Edition} (acc : Accepted ed ws) {b : Bases} {word
     unfolding upto
     cons = rw (add-one n, getD-drop (b .«body_nodes») w n 0)
 
-    swept : Swept (b .atoms + b .nodes) (conePreds (theoryOf ws)) (inGraph (theoryOf ws)) (getD w (b .«body_nodes» + n) 0 ∷ ordered b w n) (queued b w found) (markAt b w)
+    swept : Swept (b .atoms + b .nodes) (conePreds (theoryOf ws)) (inGraph (theoryOf ws)) (getD w (b .«body_nodes» + n) 0 ∷ ordered b w n) (queued b w found) (markIn b w)
     swept = rw cons at (s .swept)
 
     pub root-in : Is (inGraph (theoryOf ws) (getD w (b .«body_nodes» + n) 0)) × (getD w (b .«body_nodes» + n) 0 < b .atoms + b .nodes)
@@ -95,7 +96,7 @@ module _ {ws : List ℕ} {ed : Edition} (acc : Accepted ed ws) {b : Bases} {word
       members = λ i l h. absurd (omega arith);
     }
       where
-        three : (markAt b w (getD w (b .«body_nodes» + n) 0) ≡ 2) ⊎ (markAt b w (getD w (b .«body_nodes» + n) 0) ≡ 3) → markAt b w (getD w (b .«body_nodes» + n) 0) ≡ 3
+        three : (markIn b w (getD w (b .«body_nodes» + n) 0) ≡ 2) ⊎ (markIn b w (getD w (b .«body_nodes» + n) 0) ≡ 3) → markIn b w (getD w (b .«body_nodes» + n) 0) ≡ 3
         three (inl e) = absurd (k e)
         three (inr e) = e
 
@@ -114,7 +115,7 @@ module _ {ws : List ℕ} {ed : Edition} (acc : Accepted ed ws) {b : Bases} {word
         low = rw ex (root-in .1)
 
         place : (b .states ≤ markOf b x) × (markOf b x < b .end) × ((markOf b x < b .dependencies) ⊎ ((b .«founded_atoms» ≤ markOf b x) × (markOf b x < b .«cyclic_atoms»)))
-        place = mark-place b (based .laid) x low
+        place = mark-place (based .laid) x low
 
         -- what neither store touches
         other : (i : ℕ) → i ≢ markOf b x → i ≢ b .queue + found → getD (set (set w (markOf b x) 3) (b .queue + found) x) i 0 ≡ getD w i 0
@@ -137,7 +138,7 @@ module _ {ws : List ℕ} {ed : Edition} (acc : Accepted ed ws) {b : Bases} {word
         mark-other : (u : ℕ) → u < b .atoms + b .nodes → getD (set (set w (markOf b x) 3) (b .queue + found) x) (markOf b u) 0 ≡ getD (set w (markOf b x) 3) (markOf b u) 0
         mark-other u l =
             let d = based .laid in let r = root-room in
-            let p = mark-place b (based .laid) u l .2 in
+            let p = mark-place (based .laid) u l .2 in
             getD-set-other (set w (markOf b x) 3) (b .queue + found) (markOf b u) x 0 (λ e. go e p)
           where
             go : markOf b u ≡ b .queue + found → (markOf b u < b .dependencies) ⊎ ((b .«founded_atoms» ≤ markOf b u) × (markOf b u < b .«cyclic_atoms»)) → ⊥
@@ -148,7 +149,7 @@ module _ {ws : List ℕ} {ed : Edition} (acc : Accepted ed ws) {b : Bases} {word
         marked = let p = place .1 in mark-other x low ∙ getD-set-same w (markOf b x) 3 0 (omega arith)
 
         others : (u : ℕ) → u < b .atoms + b .nodes → u ≢ x → getD (set (set w (markOf b x) 3) (b .queue + found) x) (markOf b u) 0 ≡ getD w (markOf b u) 0
-        others u l k = mark-other u l ∙ getD-set-other w (markOf b x) (markOf b u) 3 0 (mark-apart b (based .laid) x low u l k)
+        others u l k = mark-other u l ∙ getD-set-other w (markOf b x) (markOf b u) 3 0 (mark-apart (based .laid) x low u l k)
 
         one : between found (found + 1 - found) (drop (b .queue) (set (set w (markOf b x) 3) (b .queue + found) x)) ≡ x ∷ []
         unfolding between

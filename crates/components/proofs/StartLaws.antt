@@ -1,5 +1,5 @@
 -- From the first walk to the second: the order is there, every vertex of the graph is marked, and no flag is set.
-use mathlib.Core.Path.{_≡_, refl, sym, ap, _∙_}
+use mathlib.Core.Path.{_≡_, refl, ap, _∙_}
 use mathlib.Core.Logic.{_⊎_, inl, inr}
 use mathlib.Core.List.{List, _++_, List·Memᴰ·not-nil}
 use Prim.Native.Nat.{ℕ, _+_, _-_, _≤_, _<_}
@@ -14,18 +14,14 @@ use Rattle.theory.proofs.CollectLaws.{swept-start}
 use Rattle.area.specs.declared.Bases.{Bases}
 use Rattle.area.specs.Layout.{Based}
 use Rattle.area.proofs.PartLaws.{part-length, part-before, part-at, frame-at, frame-less}
-use Rattle.events.specs.Held.{Tables, markOf, markAt}
-use Rattle.events.proofs.MarkLaws.{mark-place}
+use Rattle.events.specs.Held.{Tables}
+use Rattle.area.specs.Marks.{markOf, markIn}
+use Rattle.area.proofs.MarkLaws.{mark-place}
 use Rattle.events.proofs.VertexLaws.{tables-same}
-use Rattle.finishing.specs.Marks as first
+use Rattle.finishing.specs.Latest.{latest}
 use Rattle.finishing.specs.Finished.{Finished}
 use Rattle.components.specs.Classes.{Sweeping, Classified, ordered}
 use Rattle.components.proofs.GatherLaws.{within, count, ordered-same}
-
--- the two walks keep a mark at the same place
-mark-same : (b : Bases) (v : ℕ) → first.markOf b v ≡ markOf b v
-unfolding first.markOf markOf
-mark-same b v = refl
 
 module _ {ws : List ℕ} {ed : Edition} (acc : Accepted ed ws) {b : Bases} {w₀ w : List ℕ} (based : Based ws (length w₀) b) (t : Tables (theoryOf ws) b w₀) {r : ℕ} (f : Finished ws b w₀ w r) where
   short : b .«cyclic_atoms» ≤ b .end
@@ -57,8 +53,8 @@ module _ {ws : List ℕ} {ed : Edition} (acc : Accepted ed ws) {b : Bases} {w₀
     before : (i : ℕ) → i < b .«cyclic_atoms» → getD w₁ i 0 ≡ getD w i 0
     before i l = frame-at (b .«cyclic_atoms») w w₁ frame₁ i l
 
-    marks₁ : (v : ℕ) → v < b .atoms + b .nodes → markAt b w₁ v ≡ first.markIn b w v
-    marks₁ v l = go (mark-place b (based .laid) v l .2) ∙ ap (λ (z : ℕ). getD w z 0) (sym (mark-same b v))
+    marks₁ : (v : ℕ) → v < b .atoms + b .nodes → markIn b w₁ v ≡ markIn b w v
+    marks₁ v l = go (mark-place (based .laid) v l .2)
       where
         go : (markOf b v < b .dependencies) ⊎ ((b .«founded_atoms» ≤ markOf b v) × (markOf b v < b .«cyclic_atoms»)) → getD w₁ (markOf b v) 0 ≡ getD w (markOf b v) 0
         go (inl p) = let q = based .laid in before (markOf b v) (omega arith)
@@ -70,7 +66,7 @@ module _ {ws : List ℕ} {ed : Edition} (acc : Accepted ed ws) {b : Bases} {w₀
     pub sizes : length w₁ ≡ length w₀
     sizes = size₁ ∙ f .kept .size
 
-    order₁ : ordered b w₁ r ≡ first.latest w (b .«body_nodes») r
+    order₁ : ordered b w₁ r ≡ latest w (b .«body_nodes») r
     order₁ = let q = based .laid in let k = f .count in let c = count acc based in ordered-same b r w w₁ (λ i l. before (b .«body_nodes» + i) (omega arith))
 
     bound : Ordered (b .atoms + b .nodes) (conePreds (theoryOf ws)) (inGraph (theoryOf ws)) (ordered b w₁ r)

@@ -23,7 +23,8 @@ use Rattle.graph.proofs.DecodeLaws.{the-atoms}
 use Rattle.area.specs.declared.Bases.{Bases}
 use Rattle.area.specs.Layout.{Laid, Based}
 use Rattle.events.specs.declared.Event.the-variants.{Collect}
-use Rattle.events.specs.Held.{Gathering, Held, markAt, queued}
+use Rattle.events.specs.Held.{Gathering, Held, queued}
+use Rattle.area.specs.Marks.{markIn}
 use Rattle.events.proofs.VertexLaws.{tables-same}
 use Rattle.components.specs.Classes.{Classifying, Kept, Gathered, Searched, ordered, ctxOf}
 use Rattle.components.proofs.GatherLaws.{within, row-all, row-edges, ordered-same, left}
@@ -32,7 +33,7 @@ module _ {ws : List ℕ} {ed : Edition} (acc : Accepted ed ws) {b : Bases} {word
   g : Gathering b (ctxOf ws b w₀ n found (between found (head - found) (drop (b .queue) w)) w tail) w tail []
   g = r .held .collecting refl
 
-  c : Collecting (b .atoms + b .nodes) (conePreds (theoryOf ws)) (inGraph (theoryOf ws)) (getD w₀ (b .«body_nodes» + n) 0) (ordered b w₀ n) (queued b w found) (between found (tail - found) (drop (b .queue) w)) (between found (head - found) (drop (b .queue) w)) [] (markAt b w)
+  c : Collecting (b .atoms + b .nodes) (conePreds (theoryOf ws)) (inGraph (theoryOf ws)) (getD w₀ (b .«body_nodes» + n) 0) (ordered b w₀ n) (queued b w found) (between found (tail - found) (drop (b .queue) w)) (between found (head - found) (drop (b .queue) w)) [] (markIn b w)
   c = g .collecting
 
   pub tail-low : tail ≤ b .atoms + b .nodes

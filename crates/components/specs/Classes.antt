@@ -16,7 +16,8 @@ use Rattle.theory.specs.Closure.{dead}
 use Rattle.theory.specs.Prefix.{upto, between}
 use Rattle.area.specs.declared.Bases.{Bases}
 use Rattle.events.specs.declared.Event.the-variants.{Collect}
-use Rattle.events.specs.Held.{Tables, Ctx, Held, queued, markAt}
+use Rattle.events.specs.Held.{Tables, Ctx, Held, queued}
+use Rattle.area.specs.Marks.{markIn}
 
 -- the first n of the finishing order, the last one first
 abbrev pub ordered : Bases → List ℕ → ℕ → List ℕ
@@ -30,7 +31,7 @@ pub record Classifying (ws : List ℕ) (b : Bases) (w : List ℕ) (n found : ℕ
   pub tables : Tables (theoryOf ws) b w
   pub roots : (v : ℕ) → Mem v (ordered b w n) → Is (inGraph (theoryOf ws) v) × (v < b .atoms + b .nodes)
   pub fits : n ≤ b .atoms + b .nodes
-  pub swept : Swept (b .atoms + b .nodes) (conePreds (theoryOf ws)) (inGraph (theoryOf ws)) (ordered b w n) (queued b w found) (markAt b w)
+  pub swept : Swept (b .atoms + b .nodes) (conePreds (theoryOf ws)) (inGraph (theoryOf ws)) (ordered b w n) (queued b w found) (markIn b w)
 
 -- the flags of the atoms found are set as they are cyclic
 pub record Flagged (ws : List ℕ) (b : Bases) (w : List ℕ) (seen : List ℕ) : Type 0 where

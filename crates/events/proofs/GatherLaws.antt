@@ -12,8 +12,9 @@ use Rattle.theory.proofs.CollectLaws.{entry-low, entry-met, entry-room, entry-f
 use Rattle.theory.specs.Drive.{Follows, Drives}
 use Rattle.area.specs.declared.Bases.{Bases}
 use Rattle.events.specs.declared.Event.the-variants.{Settle, Collect}
-use Rattle.events.specs.Held.{Ctx, Gathering, Held, markOf, queued}
-use Rattle.events.proofs.MarkLaws.{mark-place, mark-apart}
+use Rattle.events.specs.Held.{Ctx, Gathering, Held, queued}
+use Rattle.area.specs.Marks.{markOf}
+use Rattle.area.proofs.MarkLaws.{mark-place, mark-apart}
 use Rattle.events.proofs.SettleLaws.{Ready}
 
 collect-only : {X : Type 0} → Collect ≡ Settle → X
@@ -47,7 +48,7 @@ module _ {lim : ℕ} {b : Bases} {w : List ℕ} {t v : ℕ} where
           omega (arith, length-append (between (c .from) (t - c .from) (drop (b .queue) w)) (queued b w (c .from)), between-length (c .from) (t - c .from) (drop (b .queue) w), upto-length (c .from) (drop (b .queue) w))
 
       inside : markOf b v < length w
-      inside = let p = mark-place b (h .laid) v low in let q = p .1 in let l = h .long in omega arith
+      inside = let p = mark-place (h .laid) v low in let q = p .1 in let l = h .long in omega arith
 
       w₂ : List ℕ
       w₂ = set (set w (markOf b v) 3) (b .queue + t) v
@@ -55,7 +56,7 @@ module _ {lim : ℕ} {b : Bases} {w : List ℕ} {t v : ℕ} where
       -- the words of the queue before its end stay
       kept : (i : ℕ) → i < t → getD (drop (b .queue) (set (set w (markOf b v) 3) (b .queue + t) v)) i 0 ≡ getD (drop (b .queue) w) i 0
       kept i l =
-          let p = mark-place b (h .laid) v low .2 in
+          let p = mark-place (h .laid) v low .2 in
           let k = h .laid in let r = room in
           getD-drop (b .queue) (set (set w (markOf b v) 3) (b .queue + t) v) i 0
           ∙ getD-set-other (set w (markOf b v) 3) (b .queue + t) (b .queue + i) v 0 (λ e. omega arith)
@@ -70,7 +71,7 @@ module _ {lim : ℕ} {b : Bases} {w : List ℕ} {t v : ℕ} where
       -- a mark is not in the queue
       off-queue : (u : ℕ) → u < b .atoms + b .nodes → getD (set (set w (markOf b v) 3) (b .queue + t) v) (markOf b u) 0 ≡ getD (set w (markOf b v) 3) (markOf b u) 0
       off-queue u l =
-          let p = mark-place b (h .laid) u l .2 in
+          let p = mark-place (h .laid) u l .2 in
           let k = h .laid in let r = room in
           getD-set-other (set w (markOf b v) 3) (b .queue + t) (markOf b u) v 0 (λ e. ⊎-elim (λ (q : markOf b u < b .dependencies). omega arith) (λ (q : (b .«founded_atoms» ≤ markOf b u) × (markOf b u < b .«cyclic_atoms»)). omega arith) p)
 
@@ -78,7 +79,7 @@ module _ {lim : ℕ} {b : Bases} {w : List ℕ} {t v : ℕ} where
       marked = off-queue v low ∙ getD-set-same w (markOf b v) 3 0 inside
 
       others : (u : ℕ) → u < b .atoms + b .nodes → u ≢ v → getD (set (set w (markOf b v) 3) (b .queue + t) v) (markOf b u) 0 ≡ getD w (markOf b u) 0
-      others u l n = off-queue u l ∙ getD-set-other w (markOf b v) (markOf b u) 3 0 (mark-apart b (h .laid) v low u l n)
+      others u l n = off-queue u l ∙ getD-set-other w (markOf b v) (markOf b u) 3 0 (mark-apart (h .laid) v low u l n)
 
       more : between (c .from) (t + 1 - c .from) (drop (b .queue) (set (set w (markOf b v) 3) (b .queue + t) v)) ≡ v ∷ between (c .from) (t - c .from) (drop (b .queue) w)
       unfolding between
@@ -103,7 +104,7 @@ module _ {lim : ℕ} {b : Bases} {w : List ℕ} {t v : ℕ} where
         long = rw (length-set, length-set) (h .long);
         small = h .small;
         kept = λ i l k.
-            let p = mark-place b (h .laid) v low .2 in
+            let p = mark-place (h .laid) v low .2 in
             let q = h .laid in let r = room in
             getD-set-other (set w (markOf b v) 3) (b .queue + t) i v 0 (λ e. omega arith)
             ∙ getD-set-other w (markOf b v) i 3 0 (λ e. off-mark i l k e p)
@@ -133,7 +134,7 @@ module _ {lim : ℕ} {b : Bases} {w : List ℕ} {t v : ℕ} where
     pub gather-fresh : getD w (markOf b v) 0 ≡ 2 → Drives (Held lim b Collect) (b .states) w t (v ∷ []) (set (set w (markOf b v) 3) (b .queue + t) v) (t + 1) []
     gather-fresh e =
         let l = f .held .laid in
-        let p = mark-place b l v (low (f .held)) .0 in
+        let p = mark-place l v (low (f .held)) .0 in
         record {
           frame = take-set-le (b .states) (set w (markOf b v) 3) (b .queue + t) v (omega arith) ∙ take-set-le (b .states) w (markOf b v) 3 p;
           size = length-set (set w (markOf b v) 3) (b .queue + t) v ∙ length-set w (markOf b v) 3;

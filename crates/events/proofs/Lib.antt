@@ -1,4 +1,3 @@
-pub mod MarkLaws
 pub mod SettleLaws
 pub mod GatherLaws
 pub mod VertexLaws

@@ -48,11 +48,10 @@ tables-same {th} {b} {w} {w′} frame size t = record {
   atom-nodes = table-same (b .states) w w′ frame size (t .atom-nodes);
   parents = table-same (b .states) w w′ frame size (t .parents);
   by-body = table-same (b .states) w w′ frame size (t .by-body);
-  fits = rw size (t .fits);
 }
 
-pub spanned : {n : ℕ} {w : List ℕ} {base rows : ℕ} {edges : List Edge} → Tabled n w base rows edges → length w ≤ 1073741824 → (r : ℕ) → r < rows → Spanned n w base rows r
-spanned t k r l = record { row = l; rises = t .rising r l; ends = t .inside (r + 1) (omega arith); long = t .long; fits = k }
+pub spanned : {n : ℕ} {w : List ℕ} {base rows : ℕ} {edges : List Edge} → Tabled n w base rows edges → (r : ℕ) → r < rows → Spanned n w base rows r
+spanned t r l = record { row = l; rises = t .rising r l; ends = t .inside (r + 1) (omega arith); long = t .long }
 
 module _ {ws w : List ℕ} {b : Bases} {words : ℕ} (based : Based ws words b) (t : Tables (theoryOf ws) b w) where
   counts : (b .atoms ≡ theoryOf ws .atoms) × (b .nodes ≡ theoryOf ws .nodes)
@@ -60,13 +59,13 @@ module _ {ws w : List ℕ} {b : Bases} {words : ℕ} (based : Based ws words b) 
   counts = (based .atoms, based .nodes)
 
   pub atom-spanned : (a : ℕ) → a < b .atoms → Spanned (b .states) w (b .«atom_nodes») (b .atoms) a
-  atom-spanned a l = let e = counts .0 in rw e (spanned (t .atom-nodes) (t .fits) a (omega arith))
+  atom-spanned a l = let e = counts .0 in rw e (spanned (t .atom-nodes) a (omega arith))
 
   pub parents-spanned : (m : ℕ) → m < b .nodes → Spanned (b .states) w (b .parents) (b .nodes) m
-  parents-spanned m l = let e = counts .1 in rw e (spanned (t .parents) (t .fits) m (omega arith))
+  parents-spanned m l = let e = counts .1 in rw e (spanned (t .parents) m (omega arith))
 
   pub body-spanned : (m : ℕ) → m < b .nodes → Spanned (b .states) w (b .«by_body») (b .nodes) m
-  body-spanned m l = let e = counts .1 in rw e (spanned (t .by-body) (t .fits) m (omega arith))
+  body-spanned m l = let e = counts .1 in rw e (spanned (t .by-body) m (omega arith))
 
   body-row : (m : ℕ) → m < b .nodes → rowAt w (b .«by_body») (b .nodes) m ≡ entries m (byBody (theoryOf ws))
   unfolding byBody

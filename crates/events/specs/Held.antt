@@ -1,10 +1,8 @@
 -- What the words hold while the entries of a row are settled (a worklist) or collected (a component): counts, marks and the queue.
 use mathlib.Core.Path.{_≡_}
 use mathlib.Core.Logic.{_⊎_}
-use mathlib.Core.Bool.{cond}
 use mathlib.Core.List.{List, map}
-use Prim.Native.Nat.{ℕ, _+_, _-_, _*_, _≤_, _<_}
-use lib.Dec.{ltb}
+use Prim.Native.Nat.{ℕ, _+_, _-_, _≤_, _<_}
 use lib.ListN.{length, getD, drop}
 use Rattle.theory.specs.Sets.{Set}
 use Rattle.theory.specs.Theory.{Theory}
@@ -13,6 +11,7 @@ use Rattle.theory.specs.Worklist.{Worklist}
 use Rattle.theory.specs.Search.{Within, Collecting}
 use Rattle.theory.specs.Prefix.{upto, between}
 use Rattle.area.specs.declared.Bases.{Bases}
+use Rattle.area.specs.Marks.{markIn}
 use Rattle.area.specs.Layout.{Laid}
 use Rattle.adjacency.specs.declared.Table.the-variants.{AtomNodes, Parents, ByBody}
 use Rattle.adjacency.specs.Tables.{startAt, Tabled, edgesOf}
@@ -22,13 +21,6 @@ use Rattle.events.specs.declared.Event.the-variants.{Settle, Collect}
 -- what vertex v waits for
 abbrev pub countAt : Bases → List ℕ → ℕ → ℕ
 countAt b w v = getD w (b .dependencies + v) 0
-
--- where the mark of a vertex stands
-unfoldable pub markOf : Bases → ℕ → ℕ
-markOf b v = cond (ltb v (b .atoms)) (b .«founded_atoms» + v) (b .states + 2 * (v - b .atoms))
-
-abbrev pub markAt : Bases → List ℕ → ℕ → ℕ
-markAt b w v = getD w (markOf b v) 0
 
 -- the first n entries of the queue, the last one first
 abbrev pub queued : Bases → List ℕ → ℕ → List ℕ
@@ -52,7 +44,7 @@ pub record Ctx : Type 0 where
 pub record Gathering (b : Bases) (c : Ctx) (w : List ℕ) (t : ℕ) (todo : List ℕ) : Type 0 where
   pub within : Within (b .atoms + b .nodes) (c .pred) (c .graph)
   pub after : c .from ≤ t
-  pub collecting : Collecting (b .atoms + b .nodes) (c .pred) (c .graph) (c .root) (c .earlier) (queued b w (c .from)) (between (c .from) (t - c .from) (drop (b .queue) w)) (c .begun) todo (markAt b w)
+  pub collecting : Collecting (b .atoms + b .nodes) (c .pred) (c .graph) (c .root) (c .earlier) (queued b w (c .from)) (between (c .from) (t - c .from) (drop (b .queue) w)) (c .begun) todo (markIn b w)
 
 pub record Held (lim : ℕ) (b : Bases) (event : Event) (c : Ctx) (w : List ℕ) (t : ℕ) (todo : List ℕ) : Type 0 where
   pub laid : Laid b
@@ -76,7 +68,6 @@ pub record Spanned (n : ℕ) (w : List ℕ) (base rows r : ℕ) : Type 0 where
   pub rises : startAt w base rows r ≤ startAt w base rows (r + 1)
   pub ends : startAt w base rows (r + 1) ≤ n
   pub long : n ≤ length w
-  pub fits : length w ≤ 1073741824
 
 -- the words from one place to another are producers
 abbrev pub Named : (ws w : List ℕ) → ℕ → ℕ → Type 0
@@ -87,4 +78,3 @@ pub record Tables (th : Theory) (b : Bases) (w : List ℕ) : Type 0 where
   pub atom-nodes : Tabled (b .states) w (b .«atom_nodes») (th .atoms) (edgesOf th AtomNodes)
   pub parents : Tabled (b .states) w (b .parents) (th .nodes) (edgesOf th Parents)
   pub by-body : Tabled (b .states) w (b .«by_body») (th .nodes) (edgesOf th ByBody)
-  pub fits : length w ≤ 1073741824

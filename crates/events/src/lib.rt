@@ -11,7 +11,8 @@ ghost use Rattle.theory.specs.Rows.{flatMap, succs};
 ghost use Rattle.theory.specs.Drive.{Follows, Drives};
 ghost use Rattle.area.specs.Layout.{Laid, Based};
 ghost use Rattle.adjacency.specs.Tables.{startAt, rowAt};
-ghost use Rattle.events.specs.Held.{Held, markOf, shifted, Spanned, Named, Tables};
+ghost use Rattle.events.specs.Held.{Held, shifted, Spanned, Named, Tables};
+ghost use Rattle.area.specs.Marks.{markOf};
 ghost use Rattle.events.specs.declared.Event.the-variants.{Settle, Collect};
 ghost use Rattle.events.specs.Run.{Running, Ran};
 ghost use Rattle.theory.specs.Closure.{Mode};
@@ -39,23 +40,12 @@ fn settle(work: &mut [u16], b: Bases, v: usize, tail: usize) -> usize
     tail + 1
 }
 
-// Where the mark of a vertex stands.
-pub fn mark(b: Bases, v: usize) -> usize
-    requires { ⌜ Laid b × (v < b .atoms + b .nodes) × (b .end < 18446744073709551616) ⌝ }
-    ensures { λ r. ⌜ r ≡ markOf b v ⌝ }
-{
-    if v < b.atoms {
-        return b.founded_atoms + v;
-    }
-    b.states + 2 * (v - b.atoms)
-}
-
 // v, if the second walk has not met it, is met, and goes on the queue.
 fn collect(work: &mut [u16], b: Bases, v: usize, tail: usize) -> usize
     requires { ⌜ Follows (Held 65536 b Collect) (now work) tail (v ∷ []) ⌝ }
     ensures { λ r. ⌜ Drives (Held 65536 b Collect) (b .states) (now (work .entry)) tail (v ∷ []) (now (work .exit)) r [] ⌝ }
 {
-    let m = mark(b, v);
+    let m = area::mark(b, v);
     if graph::at(work, m) != 2 {
         return tail;
     }
@@ -141,14 +131,6 @@ fn visit_producers(
     t
 }
 
-// Where the entries of row r begin, in the table of so many rows at base.
-fn start(work: &[u16], base: usize, rows: usize, r: usize) -> usize
-    requires { ⌜ (r ≤ rows) × (base + (rows + 1) ≤ length (now work)) × (length (now work) ≤ 1073741824) ⌝ }
-    ensures { λ x. ⌜ x ≡ startAt (now (work .entry)) base rows r ⌝ }
-{
-    base + (rows + 1) + graph::at(work, base + r)
-}
-
 fn visit_row(
     work: &mut [u16],
     b: Bases,
@@ -162,8 +144,8 @@ fn visit_row(
     requires { ⌜ Follows (Held 65536 b event) (now work) tail (shifted b (rowAt (now work) base rows r)) ⌝ }
     ensures { λ x. ⌜ Drives (Held 65536 b event) (b .states) (now (work .entry)) tail (shifted b (rowAt (now (work .entry)) base rows r)) (now (work .exit)) x [] ⌝ }
 {
-    let from = start(work, base, rows, r);
-    let to = start(work, base, rows, r + 1);
+    let from = adjacency::row_start(work, base, rows, r);
+    let to = adjacency::row_start(work, base, rows, r + 1);
     visit_nodes(work, b, event, from, to, tail)
 }
 
@@ -181,8 +163,8 @@ fn visit_body(
     requires { ⌜ Follows (Held 65536 b event) (now work) tail (flatMap (theoryOf (now graph) .heads) (rowAt (now work) (b .«by_body») (b .nodes) m)) ⌝ }
     ensures { λ x. ⌜ Drives (Held 65536 b event) (b .states) (now (work .entry)) tail (flatMap (theoryOf (now (graph .entry)) .heads) (rowAt (now (work .entry)) (b .«by_body») (b .nodes) m)) (now (work .exit)) x [] ⌝ }
 {
-    let from = start(work, b.by_body, b.nodes, m);
-    let to = start(work, b.by_body, b.nodes, m + 1);
+    let from = adjacency::row_start(work, b.by_body, b.nodes, m);
+    let to = adjacency::row_start(work, b.by_body, b.nodes, m + 1);
     visit_producers(graph, work, b, event, from, to, tail)
 }
 

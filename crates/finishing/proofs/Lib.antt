@@ -1,4 +1,4 @@
-pub mod MarkLaws
+pub mod LatestLaws
 pub mod CursorLaws
 pub mod PlaceLaws
 pub mod LookLaws

@@ -15,9 +15,9 @@ use Rattle.area.specs.declared.Bases.{Bases}
 use Rattle.area.specs.Layout.{Based}
 use Rattle.area.proofs.PartLaws.{frame-less}
 use Rattle.adjacency.proofs.TableLaws.{kept as table-kept}
-use Rattle.finishing.specs.Marks.{markOf}
+use Rattle.area.specs.Marks.{markOf}
 use Rattle.finishing.specs.Finished.{Kept, Ready}
-use Rattle.finishing.proofs.MarkLaws.{mark-high}
+use Rattle.area.proofs.MarkLaws.{mark-high}
 
 module _ {ws : List ℕ} {n : ℕ} {b : Bases} (based : Based ws n b) where
   pub atoms-are : b .atoms ≡ theoryOf ws .atoms

@@ -18,11 +18,12 @@ use Rattle.theory.proofs.SearchLaws.{fin-fits, stack-fits, search-same, entry-e
 use Rattle.area.specs.declared.Bases.{Bases}
 use Rattle.finishing.specs.declared.Entry.{Entry}
 use Rattle.finishing.specs.declared.Entry.the-variants.{Vertex, Fact, Done}
-use Rattle.finishing.specs.Marks.{markIn, latest}
+use Rattle.area.specs.Marks.{markIn}
+use Rattle.finishing.specs.Latest.{latest}
 use Rattle.finishing.specs.Cursors.{named, leftOf, Linked}
 use Rattle.finishing.specs.Finished.{Kept, Ready}
 use Rattle.finishing.specs.Walking.{cursorIn, entriesIn, Walking, ahead, Looking, Looked, discovered, Meeting, Met, known, new, Stepped}
-use Rattle.finishing.proofs.MarkLaws.{latest-length, latest-top}
+use Rattle.finishing.proofs.LatestLaws.{latest-length, latest-top}
 use Rattle.finishing.proofs.CursorLaws.{first-all}
 use Rattle.finishing.proofs.PlaceLaws.{stack-place, kept-on, ready-kept}
 use Rattle.finishing.proofs.ViewLaws.{cursor-met, cursor-unmet, look-marks, look-here, look-others, look-list, look-kept, end-marks, end-cursors, end-stack, end-order, end-kept, found-here, found-marks, found-cursors, found-stack, found-order, found-kept}

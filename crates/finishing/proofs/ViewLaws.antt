@@ -14,11 +14,13 @@ use lib.Seq.{getD-set-same, getD-set-other}
 use Rattle.theory.specs.Words.{theoryOf}
 use Rattle.theory.specs.Edges.{vertices}
 use Rattle.area.specs.declared.Bases.{Bases}
-use Rattle.finishing.specs.Marks.{markOf, markIn, latest}
+use Rattle.area.specs.Marks.{markOf, markIn}
+use Rattle.finishing.specs.Latest.{latest}
 use Rattle.finishing.specs.Cursors.{firstOf}
 use Rattle.finishing.specs.Finished.{Kept, Ready}
 use Rattle.finishing.specs.Walking.{cursorIn, discovered}
-use Rattle.finishing.proofs.MarkLaws.{mark-low, mark-aside, mark-apart, latest-same, latest-aside, latest-push}
+use Rattle.area.proofs.MarkLaws.{mark-low, mark-aside, mark-apart}
+use Rattle.finishing.proofs.LatestLaws.{latest-same, latest-aside, latest-push}
 use Rattle.finishing.proofs.PlaceLaws.{vertices-are, vertex-low, cursor-place, stack-place, order-place, mark-place, kept-on, kept-set, ready-kept}
 
 module _ (ws : List ℕ) (b : Bases) where

@@ -12,7 +12,8 @@ use Rattle.area.specs.declared.Bases.{Bases}
 use Rattle.area.specs.Layout.{Based}
 use Rattle.adjacency.specs.Tables.{rowsOf, edgesOf, baseOf, nextOf, Tabled}
 use Rattle.adjacency.specs.declared.Table.the-variants.{ByHead}
-use Rattle.finishing.specs.Marks.{markIn, latest}
+use Rattle.area.specs.Marks.{markIn}
+use Rattle.finishing.specs.Latest.{latest}
 
 -- what stays: the length, the tables and the fact rows
 pub record Kept (b : Bases) (w w′ : List ℕ) : Type 0 where

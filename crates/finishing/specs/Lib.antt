@@ -1,4 +1,4 @@
-pub mod Marks
+pub mod Latest
 pub mod Finished
 pub mod Cursors
 pub mod Walking

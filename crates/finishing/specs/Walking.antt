@@ -13,7 +13,8 @@ use Rattle.theory.specs.Edges.{vertices, inGraph, conePreds}
 use Rattle.theory.specs.Search.{Searching}
 use Rattle.area.specs.declared.Bases.{Bases}
 use Rattle.finishing.specs.declared.Entry.{Entry}
-use Rattle.finishing.specs.Marks.{markOf, markIn, latest}
+use Rattle.area.specs.Marks.{markOf, markIn}
+use Rattle.finishing.specs.Latest.{latest}
 use Rattle.finishing.specs.Finished.{Kept, Ready}
 use Rattle.finishing.specs.Cursors.{named, leftOf, firstOf, Linked, Took}
 

@@ -6,7 +6,7 @@ ghost use Rattle.theory.specs.Words.{theoryOf};
 ghost use Rattle.theory.specs.Edges.{vertices};
 ghost use Rattle.theory.specs.Accepted.{Accepted, edition1};
 ghost use Rattle.area.specs.Layout.{Laid};
-ghost use Rattle.finishing.specs.Marks.{markOf};
+ghost use Rattle.area.specs.Marks.{markOf};
 ghost use Rattle.finishing.specs.Cursors.{firstOf};
 ghost use Rattle.finishing.specs.Finished.{Ready, Marked, Finished};
 ghost use Rattle.finishing.specs.Walking.{Walking, Looking, Looked, Meeting, Met, Stepped, Descended};
@@ -23,17 +23,6 @@ enum Entry {
 struct Tops {
     top: usize,
     done: usize,
-}
-
-// Where the mark of a vertex stands.
-pub fn mark_at(b: Bases, v: usize) -> usize
-    requires { ⌜ Laid b × (v < b .atoms + b .nodes) × (b .end < 2 ^ 64) ⌝ }
-    ensures { λ r. ⌜ r ≡ markOf b v ⌝ }
-{
-    if v < b.atoms {
-        return b.founded_atoms + v;
-    }
-    b.states + 2 * (v - b.atoms)
 }
 
 // The cursor of a vertex before any of its entries is looked at.
@@ -56,7 +45,7 @@ fn meet(graph: &[u16], work: &mut [u16], b: Bases, v: usize, top: usize) -> usiz
     requires { ⌜ Accepted edition1 (now graph) × Meeting (now graph) b (now work) v top ⌝ }
     ensures { λ r. ⌜ Met (now (graph .entry)) b (now (work .entry)) (now (work .exit)) v top r ⌝ }
 {
-    let mark = mark_at(b, v);
+    let mark = area::mark(b, v);
     if graph::at(work, mark) != 1 {
         return top;
     }

@@ -11,6 +11,7 @@ use Rattle.theory.specs.Words.{theoryOf, bitAt}
 use Rattle.theory.specs.Accepted.{edition1}
 use Rattle.theory.specs.Founded.{cyclic, missing}
 use Rattle.theory.proofs.SetLaws.{clash, is-false, or-right}
+use Rattle.theory.proofs.UnfoundedLaws.{missing-exactly}
 use Rattle.mask.specs.Mask.{wordsOf}
 use Rattle.founded.specs.declared.Prepared.{Prepared}
 use Rattle.founded.specs.declared.Prepared.the-variants.{Done}
@@ -18,7 +19,7 @@ use Rattle.founded.specs.declared.Completed.{Completed}
 use Rattle.founded.specs.declared.Completed.the-variants.{Done as AllDone}
 use Rattle.founded.specs.Answers.{preparedOf, completedOf, badMask, badLengths, badWork, prepareAnswer, completeAnswer, Prepares, Completes}
 use Rattle.founded.proofs.OutcomeLaws.{Answered}
-use Rattle.founded.proofs.OutputLaws.{missing-bits}
+use Rattle.founded.proofs.OutputLaws.{missing-list}
 
 pub prepares : {ws output work output′ work′ : List ℕ} {r : Prepared}
     → Answered edition1 ws (badMask (getD ws 1 0) (length output)) (badWork (length work)) (cyclic (theoryOf ws)) output work output′ work′ (preparedOf r)
@@ -36,7 +37,7 @@ completes {ws} {never} {atomNever} {r = r} h d = record {
   absorbed = h .absorbed;
   output-after = h .output-after;
   work-after = h .work-after;
-  demand-3 = λ q a. rw (h .output-after, eq-eqb (completedOf r .number) 0 q) (missing-bits ws (bitAt never) (bitAt atomNever) a);
+  demand-3 = λ q a. rw (h .output-after, eq-eqb (completedOf r .number) 0 q, missing-list ws (bitAt never) (bitAt atomNever)) (missing-exactly (theoryOf ws) (bitAt never) (bitAt atomNever) a);
 }
 
 -- a refusal's number is not that of success

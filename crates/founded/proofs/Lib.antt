@@ -1,3 +1,4 @@
 pub mod OutputLaws
 pub mod OutcomeLaws
 pub mod CallLaws
+pub mod DemandLaws

@@ -1,8 +1,8 @@
--- What success writes: the set that the flags of a part of the words stand for (`part-pack`, `flags-pack`); and demand 3, over the bits of the
--- packed missing set (`missing-bits`).
-use mathlib.Core.Path.{_≡_, refl, sym, ap, _∙_}
-use mathlib.Core.Logic.{_↔_}
-use mathlib.Core.Bool.{Bool, true, false, cond}
+-- What success writes: the set that the flags of a part of the words stand for (`part-pack`, `flags-pack`); and the bits of the packed
+-- missing set (`missing-list`).
+use mathlib.Core.Path.{_≡_, refl, sym, ap, _∙_, fun-ext}
+use mathlib.Core.Logic.{_⊎_, inl, inr}
+use mathlib.Core.Bool.{Bool, true, false, _&&_, cond}
 use mathlib.Core.List.{List}
 use Prim.Native.Nat.{ℕ, _+_, _≤_, _<_}
 use native.Mathlib.Omega.{arith}
@@ -13,9 +13,8 @@ use lib.Seq.{getD-take, getD-drop}
 use Rattle.theory.specs.Sets.{Set, Is}
 use Rattle.theory.specs.Words.{theoryOf, bitAt}
 use Rattle.theory.specs.Founded.{missing}
-use Rattle.theory.specs.Unfounded.{Unfounded}
-use Rattle.theory.proofs.SetLaws.{and-right}
-use Rattle.theory.proofs.UnfoundedLaws.{missing-unfounded, missing-exactly}
+use Rattle.theory.proofs.SetLaws.{bool-cases, is-false, clash, and-right}
+use Rattle.theory.proofs.UnfoundedLaws.{missing-unfounded}
 use Rattle.mask.specs.Mask.{pack, flagged}
 use Rattle.mask.proofs.MaskLaws.{pack-bit, pack-ext}
 
@@ -33,13 +32,12 @@ flags-pack from {n} {m} w s e h = rw (← e) (pack-ext n (λ a. eqb (getD w (fro
     test true = refl
     test false = refl
 
-pub missing-bits : (ws : List ℕ) (never atomNever : Set) (a : ℕ)
-    → Is (bitAt (pack (getD ws 1 0) (missing (theoryOf ws) never atomNever)) a) ↔ ((u : Set) × Unfounded (theoryOf ws) never atomNever u × Is (u a))
+-- the bits of the packed missing set, past the last atom too
+pub missing-list : (ws : List ℕ) (never atomNever : Set) → bitAt (pack (getD ws 1 0) (missing (theoryOf ws) never atomNever)) ≡ missing (theoryOf ws) never atomNever
 unfolding theoryOf
-missing-bits ws never atomNever a =
-    let th = theoryOf ws in
-    let bit = pack-bit (getD ws 1 0) (missing th never atomNever) a in
-    let exactly = missing-exactly th never atomNever a in (
-      λ z. exactly .0 (and-right (ltb a (getD ws 1 0)) _ (sym bit ∙ z)),
-      λ q. let m = exactly .1 q in bit ∙ rw (lt-ltb a (getD ws 1 0) (missing-unfounded th never atomNever .atom a m), m),
-    )
+missing-list ws never atomNever = fun-ext (λ a. pack-bit (getD ws 1 0) (missing (theoryOf ws) never atomNever) a ∙ go a (bool-cases (missing (theoryOf ws) never atomNever a)))
+  where
+    go : (a : ℕ) → Is (missing (theoryOf ws) never atomNever a) ⊎ (missing (theoryOf ws) never atomNever a ≡ false)
+        → (ltb a (getD ws 1 0) && missing (theoryOf ws) never atomNever a) ≡ missing (theoryOf ws) never atomNever a
+    go a (inl m) = rw (lt-ltb a (getD ws 1 0) (missing-unfounded (theoryOf ws) never atomNever .atom a m))
+    go a (inr m) = is-false _ (λ t. clash (and-right (ltb a (getD ws 1 0)) _ t) m) ∙ sym m

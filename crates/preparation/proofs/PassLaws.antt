@@ -1,15 +1,13 @@
 -- The pass from the flags to the missing atoms: the lists of the cyclic cone are what the start needs, the worklist starts, and at its end an atom still
 -- waits exactly if it is missing.
-use mathlib.Core.Path.{_≡_, refl, sym, ap, _∙_, subst}
-use mathlib.Core.Logic.{_⊎_, inl, inr, _↔_, _≢_}
+use mathlib.Core.Path.{_≡_, refl, sym, ap, _∙_}
+use mathlib.Core.Logic.{_⊎_, inl, inr, _↔_}
 use mathlib.Core.Bool.{Bool, true, false, not, _&&_, cond}
-use mathlib.Core.List.{List, [], _∷_, List·Memᴰ·head, List·Memᴰ·tail, List·Memᴰ·cases-cons, List·Memᴰ·not-nil}
+use mathlib.Core.List.{List, []}
 use Prim.Native.Nat.{ℕ, zero, suc, _+_, _≤_, _<_}
-use native.Mathlib.Nat.{not-suc-le-zero}
 use native.Mathlib.Omega.{arith}
-use lib.ListN.{length, getD, take, drop, length-drop}
+use lib.ListN.{length, getD, drop, length-drop}
 use Rattle.theory.specs.Sets.{Set, Is, Mem, everyone, any}
-use Rattle.theory.specs.Counts.{Distinct}
 use Rattle.theory.specs.Words.{theoryOf}
 use Rattle.theory.specs.Accepted.{Accepted, Edition}
 use Rattle.theory.specs.Edges.{vertices, preds}
@@ -22,6 +20,7 @@ use Rattle.theory.proofs.SetLaws.{bool-cases, is-false, clash, and-intro, and-l
 use Rattle.theory.proofs.CycleLaws.{cyclic-walk}
 use Rattle.theory.proofs.FoundedLaws.{missing-parts}
 use Rattle.theory.proofs.PassLaws.{mode-atom, passed-founded, cyclicCone-enough}
+use Rattle.theory.proofs.TurnedLaws.{same-members, apart, upto-distinct}
 use Rattle.theory.proofs.WorklistLaws.{worklist-start}
 use Rattle.graph.proofs.DecodeLaws.{the-atoms, the-nodes, the-producers}
 use Rattle.area.specs.declared.Bases.{Bases}
@@ -35,56 +34,6 @@ use Rattle.cones.specs.Cones as cones
 use Rattle.cones.proofs.FactLaws.{fact-mem}
 use Rattle.initialization.specs.Regions as start
 use Rattle.preparation.specs.Stages.{Marking, Passing}
-
--- ---- a list in order and the same list, the last one first
-
-mem-upto : (n : ℕ) (l : List ℕ) {x : ℕ} → Mem x (upto n l) → (i : ℕ) × (i < n) × (x ≡ getD l i 0)
-unfolding upto
-mem-upto zero l m = absurd (List·Memᴰ·not-nil m)
-mem-upto (suc n) l {x} m = go (List·Memᴰ·cases-cons m) (mem-upto n l)
-  where
-    go : (x ≡ getD l n 0) ⊎ Mem x (upto n l) → (Mem x (upto n l) → (i : ℕ) × (i < n) × (x ≡ getD l i 0)) → (i : ℕ) × (i < suc n) × (x ≡ getD l i 0)
-    go (inl e) rest = (n, omega arith, e)
-    go (inr k) rest = let r = rest k in let h : r .0 < n = r .1 in (r .0, omega arith, r .2)
-
-upto-mem : (n i : ℕ) (l : List ℕ) → i < n → Mem (getD l i 0) (upto n l)
-upto-mem = Rattle.theory.proofs.PrefixLaws.upto-mem
-
-mem-take : (n : ℕ) (l : List ℕ) {x : ℕ} → Mem x (take n l) → (i : ℕ) × (i < n) × (x ≡ getD l i 0)
-mem-take zero l m = absurd (List·Memᴰ·not-nil m)
-mem-take (suc n) [] m = absurd (List·Memᴰ·not-nil m)
-mem-take (suc n) (y ∷ l) {x} m = go (List·Memᴰ·cases-cons m) (mem-take n l)
-  where
-    go : (x ≡ y) ⊎ Mem x (take n l) → (Mem x (take n l) → (i : ℕ) × (i < n) × (x ≡ getD l i 0)) → (i : ℕ) × (i < suc n) × (x ≡ getD (y ∷ l) i 0)
-    go (inl e) rest = (0, omega arith, e)
-    go (inr k) rest = let r = rest k in let h : r .0 < n = r .1 in (suc (r .0), omega arith, r .2)
-
-take-mem : (n i : ℕ) (l : List ℕ) → i < n → i < length l → Mem (getD l i 0) (take n l)
-take-mem zero i l h k = absurd (not-suc-le-zero h)
-take-mem (suc n) i [] h k = absurd (not-suc-le-zero k)
-take-mem (suc n) zero (y ∷ l) h k = List·Memᴰ·head refl
-take-mem (suc n) (suc i) (y ∷ l) h k = List·Memᴰ·tail (take-mem n i l (omega arith) (omega arith))
-
-module _ (n : ℕ) (l : List ℕ) (long : n ≤ length l) where
-  same-members : (x : ℕ) → Mem x (upto n l) ↔ Mem x (take n l)
-  same-members x = (
-    λ m. let r = mem-upto n l m in let h : r .0 < n = r .1 in subst (λ (z : ℕ). Mem z (take n l)) (sym (r .2)) (take-mem n (r .0) l h (omega arith)),
-    λ m. let r = mem-take n l m in subst (λ (z : ℕ). Mem z (upto n l)) (sym (r .2)) (upto-mem n (r .0) l (r .1)),
-  )
-
--- entries at two places of a list without repeats differ
-apart : (n : ℕ) (l : List ℕ) → Distinct (take n l) → (i j : ℕ) → i < j → j < n → j < length l → getD l i 0 ≢ getD l j 0
-apart zero l d i j h k m e = not-suc-le-zero k
-apart (suc n) [] d i j h k m e = not-suc-le-zero m
-apart (suc n) (y ∷ l) d zero zero h k m e = not-suc-le-zero h
-apart (suc n) (y ∷ l) d zero (suc j) h k m e = d .0 (subst (λ (z : ℕ). Mem z (take n l)) (sym e) (take-mem n j l (omega arith) (omega arith)))
-apart (suc n) (y ∷ l) d (suc i) zero h k m e = not-suc-le-zero h
-apart (suc n) (y ∷ l) d (suc i) (suc j) h k m e = apart n l (d .1) i j (omega arith) (omega arith) (omega arith) e
-
-upto-distinct : (n : ℕ) (l : List ℕ) → ((i j : ℕ) → i < j → j < n → getD l i 0 ≢ getD l j 0) → Distinct (upto n l)
-unfolding upto
-upto-distinct zero l h = tt
-upto-distinct (suc n) l h = ((λ m. let r = mem-upto n l m in let k : r .0 < n = r .1 in h (r .0) n k (omega arith) (sym (r .2))), upto-distinct n l (λ i j a c. h i j a (omega arith)))
 
 -- ---- from the flags to the start
 

@@ -18,9 +18,9 @@ use Rattle.preparation.specs.Stages.{Rowed}
 table-wide : {n m : ℕ} {w : List ℕ} {base rows : ℕ} {edges : List Edge} → n ≤ m → m ≤ length w → Tabled n w base rows edges → Tabled m w base rows edges
 table-wide h k t = record { long = k; rising = t .rising; inside = λ r l. let i = t .inside r l in omega arith; row = t .row }
 
-pub rowed : {ws : List ℕ} {b : Bases} {w₀ w₁ w₂ w₃ w₄ : List ℕ} → Based ws (length w₀) b → length w₀ ≤ 1073741824
+pub rowed : {ws : List ℕ} {b : Bases} {w₀ w₁ w₂ w₃ w₄ : List ℕ} → Based ws (length w₀) b
     → Built (theoryOf ws) b AtomNodes w₀ w₁ → Built (theoryOf ws) b Parents w₁ w₂ → Built (theoryOf ws) b ByHead w₂ w₃ → Built (theoryOf ws) b ByBody w₃ w₄ → Rowed ws b w₀ w₄
-rowed {ws} {b} {w₀} {w₁} {w₂} {w₃} {w₄} based fits a p h y =
+rowed {ws} {b} {w₀} {w₁} {w₂} {w₃} {w₄} based a p h y =
     let l = based .laid in
     let s₁ = a .size in let s₂ = p .size in let s₃ = h .size in let s₄ = y .size in
     let z = based .ends in
@@ -33,7 +33,6 @@ rowed {ws} {b} {w₀} {w₁} {w₂} {w₃} {w₄} based fits a p h y =
         atom-nodes = table-wide (omega arith) (omega arith) (table-same (b .parents) w₁ w₄ f₂ (s₄ ∙ s₃ ∙ s₂) (a .table));
         parents = table-wide (omega arith) (omega arith) (table-same (b .«by_head») w₂ w₄ f₃ (s₄ ∙ s₃) (p .table));
         by-body = y .table;
-        fits = omega arith;
       };
       by-head = table-same (b .«by_body») w₃ w₄ f₄ s₄ (h .table);
     }

@@ -20,9 +20,9 @@ use Rattle.area.specs.Layout.{Laid}
 use Rattle.area.proofs.PartLaws.{part-length, part-before, part-at, frame-at, frame-less}
 use Rattle.events.specs.Held.{Tables}
 use Rattle.events.proofs.VertexLaws.{tables-same, table-same}
-use Rattle.finishing.specs.Marks.{markIn}
+use Rattle.area.specs.Marks.{markIn}
 use Rattle.finishing.specs.Finished as walk
-use Rattle.finishing.proofs.MarkLaws.{mark-atom, mark-node}
+use Rattle.area.proofs.MarkLaws.{mark-atom, mark-node}
 use Rattle.components.specs.Classes.{Classified, flagAt}
 use Rattle.preparation.specs.Stages.{Onward, Marking}
 

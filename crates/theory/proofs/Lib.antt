@@ -20,5 +20,6 @@ pub mod CollectLaws
 pub mod ConeLaws
 pub mod RowLaws
 pub mod PrefixLaws
+pub mod TurnedLaws
 pub mod StartingLaws
 pub mod PassStartLaws

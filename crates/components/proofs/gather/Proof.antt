@@ -1,7 +1,7 @@
 use mathlib.Core.Path.{sym, _∙_}
 use native.Mathlib.Omega.{arith}
 use lib.ListN.{length-set}
-use Rattle.events.proofs.MarkLaws.{mark-place}
+use Rattle.area.proofs.MarkLaws.{mark-place}
 use Rattle.events.proofs.VertexLaws.{tables-same}
 use Rattle.components.proofs.GatherLaws.{root-in, root-room, gather-known, gather-start, small}
 use Rattle.components.proofs.TurnLaws.{search-restart, search-join, gather-end}
@@ -12,7 +12,7 @@ use Rattle.components.proofs.gather.Reads as reads
 use Rattle.components.proofs.gather.Lts as lts
 use Rattle.area.proofs.put.Reads as put-reads
 use Rattle.components.proofs.follow.Reads as follow-reads
-use Rattle.events.proofs.mark.Reads as mark-reads
+use Rattle.area.proofs.mark.Reads as mark-reads
 use Rattle.graph.proofs.at.Reads as at-reads
 
 add-at : tie.Need-add-at
@@ -42,7 +42,7 @@ at-requires-2 c κs =
     let p1 = c .before .before .before .before .before .before .before in
     let c-pre = p1 .pre in
     let c-args = p1 .args in
-    let q = c-pre .1 .ends in let r = root-in (c-pre .0) (c-pre .1) (c-args .n) (c-args .found) (c-pre .2) .1 in let p = mark-place (c-args .b) (c-pre .1 .laid) (c-at .result) (rw (c-at .ensures .0) r) .1 in let e = c-mark .ensures in omega arith
+    let q = c-pre .1 .ends in let r = root-in (c-pre .0) (c-pre .1) (c-args .n) (c-args .found) (c-pre .2) .1 in let p = mark-place (c-pre .1 .laid) (c-at .result) (rw (c-at .ensures .0) r) .1 in let e = c-mark .ensures in omega arith
 
 same-length : tie.Need-same-length
 same-length c = search needs
@@ -67,7 +67,7 @@ put-requires c κs =
     let p2 = p1 .before .before .before .before .before .before in
     let c-pre = p2 .pre in
     let c-args = p2 .args in
-    let q = c-pre .1 .ends in let r = root-in (c-pre .0) (c-pre .1) (c-args .n) (c-args .found) (c-pre .2) .1 in let p = mark-place (c-args .b) (c-pre .1 .laid) (c-at .result) (rw (c-at .ensures .0) r) .1 in let e = c-mark .ensures in (omega arith, omega arith)
+    let q = c-pre .1 .ends in let r = root-in (c-pre .0) (c-pre .1) (c-args .n) (c-args .found) (c-pre .2) .1 in let p = mark-place (c-pre .1 .laid) (c-at .result) (rw (c-at .ensures .0) r) .1 in let e = c-mark .ensures in (omega arith, omega arith)
 
 add-put : tie.Need-add-put
 add-put c =

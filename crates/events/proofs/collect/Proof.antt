@@ -1,7 +1,7 @@
 use mathlib.Core.Path.{sym, _∙_}
 use native.Mathlib.Omega.{arith}
 use lib.ListN.{length-set}
-use Rattle.events.proofs.MarkLaws.{mark-place}
+use Rattle.area.proofs.MarkLaws.{mark-place}
 use Rattle.events.proofs.GatherLaws.{gather-ready, gather-room, gather-fresh, gather-met}
 use borrow.Author.Needs.{needs}
 use Rattle.events.proofs.collect.Statement.{statement}
@@ -9,7 +9,7 @@ use Rattle.events.proofs.collect.Tie as tie
 use Rattle.events.proofs.collect.Reads as reads
 use Rattle.events.proofs.collect.Lts as lts
 use Rattle.area.proofs.put.Reads as put-reads
-use Rattle.events.proofs.mark.Reads as mark-reads
+use Rattle.area.proofs.mark.Reads as mark-reads
 use Rattle.graph.proofs.at.Reads as at-reads
 
 mark-requires : tie.Need-mark-requires
@@ -22,7 +22,7 @@ at-requires c κs =
     let c-mark = c .before .mark in
     let c-pre = c .before .before .before .pre in
     let c-args = c .before .before .before .args in
-    let r = gather-ready (c-pre) in let p = mark-place (c-args .b) (r .laid) (c-args .v) (r .low) .1 in let e = c-mark .ensures in omega arith
+    let r = gather-ready (c-pre) in let p = mark-place (r .laid) (c-args .v) (r .low) .1 in let e = c-mark .ensures in omega arith
 
 same-length : tie.Need-same-length
 same-length c = search needs
@@ -40,7 +40,7 @@ put-requires c κs =
     let c-mark = p1 .mark in
     let c-pre = p1 .before .before .pre in
     let c-args = p1 .before .before .args in
-    let r = gather-ready (c-pre) in let p = mark-place (c-args .b) (r .laid) (c-args .v) (r .low) .1 in let e = c-mark .ensures in (omega arith, omega arith)
+    let r = gather-ready (c-pre) in let p = mark-place (r .laid) (c-args .v) (r .low) .1 in let e = c-mark .ensures in (omega arith, omega arith)
 
 add-put : tie.Need-add-put
 add-put c =

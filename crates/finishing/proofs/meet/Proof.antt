@@ -8,19 +8,19 @@ use borrow.Author.Needs.{needs}
 use Rattle.finishing.proofs.meet.Statement.{statement}
 use Rattle.finishing.proofs.meet.Tie as tie
 
-mark-at-requires : tie.Need-mark-at-requires
-mark-at-requires c κs =
+mark-requires : tie.Need-mark-requires
+mark-requires c κs =
     let c-pre = c .before .before .pre in
     let c-args = c .before .before .args in
     (c-pre .1 .ready .based .laid, vertex-low (c-pre .1 .ready .based) (c-args .v) (c-pre .1 .low), (let z = c-pre .1 .ready .based .ends in omega arith))
 
 at-requires : tie.Need-at-requires
 at-requires c κs =
-    let c-mark-at = c .before .mark-at in
+    let c-mark = c .before .mark in
     let p1 = c .before .before .before .before in
     let c-pre = p1 .pre in
     let c-args = p1 .args in
-    rw (c-mark-at .ensures) (mark-place (c-pre .1 .ready .based) (c-args .v) (c-pre .1 .low))
+    rw (c-mark .ensures) (mark-place (c-pre .1 .ready .based) (c-args .v) (c-pre .1 .low))
 
 same-length : tie.Need-same-length
 same-length c = search needs
@@ -29,16 +29,16 @@ returns : tie.Need-returns
 returns c =
     let c-if1 = c .if1 in
     let c-at = c .before .at in
-    let c-mark-at = c .before .before .before .mark-at in
-    known (λ q. c-if1 .taken (c-at .ensures .0 ∙ rw (c-mark-at .ensures) q)) refl refl
+    let c-mark = c .before .before .before .mark in
+    known (λ q. c-if1 .taken (c-at .ensures .0 ∙ rw (c-mark .ensures) q)) refl refl
 
 put-requires : tie.Need-put-requires
 put-requires c κs =
     let p1 = c .before .before .before .before in
-    let c-mark-at = p1 .mark-at in
+    let c-mark = p1 .mark in
     let c-pre = p1 .before .before .before .pre in
     let c-args = p1 .before .before .before .args in
-    (rw (c-mark-at .ensures) (mark-place (c-pre .1 .ready .based) (c-args .v) (c-pre .1 .low)), omega arith)
+    (rw (c-mark .ensures) (mark-place (c-pre .1 .ready .based) (c-args .v) (c-pre .1 .low)), omega arith)
 
 add-put : tie.Need-add-put
 add-put c =
@@ -68,11 +68,11 @@ add-put-2 c =
     let p1 = c .before .before .before .before .before .before .before .before .before .before .before .before in
     let c-if1 = p1 .if1 in
     let c-at = p1 .before .at in
-    let c-mark-at = p1 .before .before .before .mark-at in
+    let c-mark = p1 .before .before .before .mark in
     let p2 = p1 .before .before .before .before .before .before in
     let c-pre = p2 .pre in
     let c-args = p2 .args in
-    let p = stack-place (c-pre .1 .ready .based) (c-args .top) (c-pre .1 .room (rw (c-mark-at .ensures) at (sym (c-at .ensures .0) ∙ c-if1 .left))) in omega arith
+    let p = stack-place (c-pre .1 .ready .based) (c-args .top) (c-pre .1 .room (rw (c-mark .ensures) at (sym (c-at .ensures .0) ∙ c-if1 .left))) in omega arith
 
 put-requires-3 : tie.Need-put-requires-3
 put-requires-3 c κs =
@@ -83,20 +83,20 @@ put-requires-3 c κs =
     let c-if1 = p2 .before .before .if1 in
     let c-at = p2 .before .before .before .at in
     let p3 = p2 .before .before .before .before .before in
-    let c-mark-at = p3 .mark-at in
+    let c-mark = p3 .mark in
     let c-pre = p3 .before .before .before .pre in
     let c-args = p3 .before .before .before .args in
-    (rw (c-put2 .ensures, length-set, c-put .ensures, length-set) (stack-place (c-pre .1 .ready .based) (c-args .top) (c-pre .1 .room (rw (c-mark-at .ensures) at (sym (c-at .ensures .0) ∙ c-if1 .left)))), (let l = c-pre .1 .low in let f = vertices-few (c-pre .1 .ready .based) (c-pre .0) in omega arith))
+    (rw (c-put2 .ensures, length-set, c-put .ensures, length-set) (stack-place (c-pre .1 .ready .based) (c-args .top) (c-pre .1 .room (rw (c-mark .ensures) at (sym (c-at .ensures .0) ∙ c-if1 .left)))), (let l = c-pre .1 .low in let f = vertices-few (c-pre .1 .ready .based) (c-pre .0) in omega arith))
 
 add-result : tie.Need-add-result
 add-result c =
     let p1 = c .before .before .before .before .before .before .before .before .before .before .before .before .before .before .before in
     let c-if1 = p1 .if1 in
     let c-at = p1 .before .at in
-    let c-mark-at = p1 .before .before .before .mark-at in
+    let c-mark = p1 .before .before .before .mark in
     let p2 = p1 .before .before .before .before .before .before in
     let c-pre = p2 .pre in
-    let l = c-pre .1 .room (rw (c-mark-at .ensures) at (sym (c-at .ensures .0) ∙ c-if1 .left)) in let f = vertices-few (c-pre .1 .ready .based) (c-pre .0) in omega arith
+    let l = c-pre .1 .room (rw (c-mark .ensures) at (sym (c-at .ensures .0) ∙ c-if1 .left)) in let f = vertices-few (c-pre .1 .ready .based) (c-pre .0) in omega arith
 
 same-length-2 : tie.Need-same-length-2
 same-length-2 c = search needs
@@ -112,14 +112,14 @@ returns-2 c =
     let c-if1 = p2 .before .before .if1 in
     let c-at = p2 .before .before .before .at in
     let p3 = p2 .before .before .before .before .before in
-    let c-mark-at = p3 .mark-at in
-    new (rw (c-mark-at .ensures) at (sym (c-at .ensures .0) ∙ c-if1 .left)) (rw (c-put3 .ensures, c-put2 .ensures, c-put .ensures, c-first-entry .ensures, c-mark-at .ensures)) refl
+    let c-mark = p3 .mark in
+    new (rw (c-mark .ensures) at (sym (c-at .ensures .0) ∙ c-if1 .left)) (rw (c-put3 .ensures, c-put2 .ensures, c-put .ensures, c-first-entry .ensures, c-mark .ensures)) refl
 
 pub meet-spec : {M : Type 1} → statement M
 meet-spec =
     tie.close
     (tie.spec
-    mark-at-requires
+    mark-requires
     at-requires
     same-length
     returns

@@ -40,7 +40,7 @@ returns c =
     let c-build-in = p3 .build-in in
     let p4 = p3 .before .before .before .before in
     let c-pre = p4 .pre in
-    rowed (c-pre .1) (c-pre .2) (c-build-in .ensures) (c-build-in2 .ensures) (c-build-in3 .ensures) (c-build-in4 .ensures)
+    rowed (c-pre .1) (c-build-in .ensures) (c-build-in2 .ensures) (c-build-in3 .ensures) (c-build-in4 .ensures)
 
 pub build-rows-spec : {M : Type 1} → statement M
 build-rows-spec =

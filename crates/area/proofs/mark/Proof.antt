@@ -1,10 +1,8 @@
 use mathlib.Core.Path.{sym}
-use Rattle.events.proofs.MarkLaws.{mark-atom, mark-node}
+use Rattle.area.proofs.MarkLaws.{mark-atom, mark-node}
 use borrow.Author.Needs.{needs}
-use Rattle.events.proofs.mark.Statement.{statement}
-use Rattle.events.proofs.mark.Tie as tie
-use Rattle.events.proofs.mark.Reads as reads
-use Rattle.events.proofs.mark.Lts as lts
+use Rattle.area.proofs.mark.Statement.{statement}
+use Rattle.area.proofs.mark.Tie as tie
 
 add-result : tie.Need-add-result
 add-result c = search needs
