@@ -1,7 +1,11 @@
 // The words of a recording on standard input, 16 bits each, low byte first, read through a lent block.
+pub mod compare;
+pub mod scores;
+
 ghost use mathlib.Core.Path.{_≡_};
-ghost use mathlib.Core.Bool.{true, false};
-ghost use Prim.Native.Nat.{_≤_, _+_, _*_};
+ghost use mathlib.Core.Bool.{true, false, cond};
+ghost use Prim.Native.Nat.{_≤_, _+_, _*_, _/_, _%_, min};
+ghost use lib.Dec.{eqb};
 ghost use lib.ListN.{length};
 ghost use Rattle.recording.specs.Reading.{wordAt, Keeps};
 
@@ -46,7 +50,10 @@ pub fn wrong(r: Reader) -> Reader
     at_word(0, true)
 }
 
-fn more(n: u64) -> u64 {
+// One more, and never past the largest.
+fn more(n: u64) -> u64
+    ensures { λ r. ⌜ r ≡ min (n + 1) 18446744073709551615 ⌝ }
+{
     if n < 18446744073709551615 { n + 1 } else { n }
 }
 
@@ -150,6 +157,78 @@ pub fn skip(block: &mut [u8; 65536], from: Reader, n: usize) -> Reader
             return r;
         }
         r = next(block, r);
+        i += 1;
+    }
+    r
+}
+
+// Four words, low first.
+fn wide(a: u16, b: u16, c: u16, d: u16) -> u64
+    ensures { λ r. ⌜ r ≡ a + 65536 * b + 4294967296 * c + 281474976710656 * d ⌝ }
+{
+    a as u64 + 65536 * (b as u64) + 4294967296 * (c as u64) + 281474976710656 * (d as u64)
+}
+
+struct WideWord {
+    value: u64,
+    reader: Reader,
+}
+
+fn next_wide(block: &mut [u8; 65536], r: Reader) -> WideWord
+    ensures { λ s. ⌜ Keeps r (s .reader) ⌝ }
+{
+    let a = next(block, r);
+    let b = next(block, a);
+    let c = next(block, b);
+    let d = next(block, c);
+    WideWord {
+        value: wide(a.word, b.word, c.word, d.word),
+        reader: d,
+    }
+}
+
+// Fills `words`, four words of the recording to each.
+pub fn read_wide(block: &mut [u8; 65536], from: Reader, words: &mut [u64]) -> Reader
+    ensures { λ s. ⌜ Keeps from s ⌝ }
+{
+    let mut r = from;
+    let mut i: usize = 0;
+    while i < words.len() {
+        let w = next_wide(block, r);
+        words[i] = w.value;
+        r = w.reader;
+        i += 1;
+    }
+    r
+}
+
+// Where byte i is: in a new word if i is even.
+fn next_byte(block: &mut [u8; 65536], r: Reader, i: usize) -> Reader
+    ensures { λ s. ⌜ Keeps r s ⌝ }
+{
+    if i % 2 == 0 { next(block, r) } else { r }
+}
+
+// Byte i, of its word.
+fn byte(word: u16, i: usize) -> u8
+    ensures { λ r. ⌜ r ≡ cond (eqb (i % 2) 0) (word % 256) (word / 256) ⌝ }
+{
+    if i % 2 == 0 {
+        (word % 256) as u8
+    } else {
+        (word / 256) as u8
+    }
+}
+
+// Fills `bytes`, two to a word of the recording; what stands beside an odd last one is passed over.
+pub fn read_bytes(block: &mut [u8; 65536], from: Reader, bytes: &mut [u8]) -> Reader
+    ensures { λ s. ⌜ Keeps from s ⌝ }
+{
+    let mut r = from;
+    let mut i: usize = 0;
+    while i < bytes.len() {
+        r = next_byte(block, r, i);
+        bytes[i] = byte(r.word, i);
         i += 1;
     }
     r
