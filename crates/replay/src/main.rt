@@ -1,127 +1,33 @@
 // Replays a recording of answers from standard input (README.md has its format) and prints how many of them agree.
+mod answers;
+mod outcome;
+
 ghost use mathlib.Core.Path.{_≡_};
-ghost use Prim.Native.Nat.{_<_};
+ghost use Prim.Native.Nat.{_≤_};
 ghost use lib.ListN.{length};
-use graph::Checked;
+use outcome::Compared;
 use recording::Reader;
+use recording::scores;
 
-// ---- the scores: how many answers of a call agree, differ and are not replayed yet, three numbers from the call's place on
-
+// The calls' places in the scores.
 const CHECK: usize = 0;
 
-const NEEDED: usize = 3;
+const NEEDED: usize = 2;
 
-const PREPARE: usize = 6;
+const PREPARE: usize = 4;
 
-const COMPLETE: usize = 9;
+const COMPLETE: usize = 6;
 
-const PROGRAM: usize = 12;
+const PROGRAM: usize = 8;
 
-fn count(scores: &mut [u64; 15], at: usize)
-    requires { ⌜ at < 15 ⌝ }
-{
-    if scores[at] < 18446744073709551615 {
-        scores[at] = scores[at] + 1;
-    }
-}
-
-// An answer that was replayed; records are counted from 0.
-fn score(scores: &mut [u64; 15], call: usize, name: &[u8], same: bool, record: u64)
-    requires { ⌜ call < 13 ⌝ }
-{
-    if same {
-        count(scores, call);
-        return;
-    }
-    count(scores, call + 1);
-    io::write_all(1, name);
-    io::write_all(1, b" differs in record ");
-    io::print_decimal(1, record);
-    io::write_all(1, b"\n");
-}
-
-fn print_score(scores: &[u64; 15], call: usize, name: &[u8])
-    requires { ⌜ call < 13 ⌝ }
-{
-    io::write_all(1, name);
-    io::write_all(1, b" ");
-    io::print_decimal(1, scores[call]);
-    io::write_all(1, b" agree, ");
-    io::print_decimal(1, scores[call + 1]);
-    io::write_all(1, b" differ");
-    if 0 < scores[call + 2] {
-        io::write_all(1, b", ");
-        io::print_decimal(1, scores[call + 2]);
-        io::write_all(1, b" not replayed");
-    }
-    io::write_all(1, b"\n");
-}
-
-// ---- parts of the format that are passed over
-
-// How many words a number of wide words takes.
-fn wide(n: u16) -> usize {
-    4 * (n as usize)
-}
-
-// How many words a number of bytes takes.
-fn padded(low: u16, high: u16) -> usize {
-    (low as usize + 65536 * (high as usize) + 1) / 2
-}
-
-// A count of places, and the places.
-fn skip_places(block: &mut [u8; 65536], r: Reader) -> Reader {
-    let count = recording::next(block, r);
-    recording::skip(block, count, count.word as usize)
-}
-
-// A mask's length in wide words, and the mask.
-fn skip_mask(block: &mut [u8; 65536], r: Reader) -> Reader {
-    let count = recording::next(block, r);
-    recording::skip(block, count, wide(count.word))
-}
-
-// The lengths of output and work area, the number, the places, and when accepted the output.
-fn skip_outcome(block: &mut [u8; 65536], r: Reader) -> Reader {
-    let output = recording::next(block, r);
-    let work = recording::next(block, output);
-    let number = recording::next(block, work);
-    let places = skip_places(block, number);
-    if number.word == 0 {
-        return recording::skip(block, places, wide(output.word));
-    }
-    places
-}
-
-// ---- the calls, each replayed in its one function, or passed over there
-
-// Number and place in one; 0 when accepted.
-fn code(number: u16, place: u16) -> u32 {
-    65536 * (number as u32) + place as u32
-}
-
-fn check(graph: &[u16]) -> u32 {
-    let checked = graph::check(graph);
-    match checked {
-        Checked::Accepted => code(0, 0),
-        Checked::Edition => code(1, 0),
-        Checked::Counts => code(2, 0),
-        Checked::Size => code(3, 0),
-        Checked::Node(n) => code(4, n),
-        Checked::Producer(p) => code(5, p),
-        Checked::Link(l) => code(6, l),
-        Checked::Leaf(n) => code(7, n),
-        Checked::Head(p) => code(8, p),
-        Checked::Entries => code(9, 0),
-    }
-}
+// ---- the calls, each replayed in its one function
 
 // Number and place.
 fn replay_check(
     block: &mut [u8; 65536],
     r: Reader,
     graph: &[u16],
-    scores: &mut [u64; 15],
+    scored: &mut [u64; 10],
     record: u64,
 ) -> Reader {
     let number = recording::next(block, r);
@@ -129,40 +35,228 @@ fn replay_check(
     if place.bad {
         return place;
     }
-    let same = check(graph) == code(number.word, place.word);
-    score(scores, CHECK, b"check", same, record);
+    let same = answers::check(graph) == answers::code(number.word, place.word);
+    scores::score(scored, CHECK, b"check", same, record);
     place
 }
 
+// Whether `needed` answers this and leaves the work area as it should.
+fn needed_agrees(graph: &[u16], work: &mut [u16], number: u16, place: u16, yes: u16) -> bool {
+    outcome::soil(work);
+    let answer = answers::needed(graph, work);
+    let expected = if number == 0 {
+        yes as u32
+    } else {
+        answers::code(number, place)
+    };
+    answer == expected && outcome::work_agrees(work, number)
+}
+
 // Work length, number, place and answer.
-fn replay_needed(block: &mut [u8; 65536], r: Reader, scores: &mut [u64; 15]) -> Reader {
-    count(scores, NEEDED + 2);
-    recording::skip(block, r, 4)
+fn replay_needed(
+    block: &mut [u8; 65536],
+    r: Reader,
+    graph: &[u16],
+    work: &mut [u16],
+    scored: &mut [u64; 10],
+    record: u64,
+) -> Reader {
+    let length = recording::next(block, r);
+    let number = recording::next(block, length);
+    let place = recording::next(block, number);
+    let yes = recording::next(block, place);
+    let n = length.word as usize;
+    if work.len() < n || yes.bad {
+        return recording::wrong(yes);
+    }
+    let same = needed_agrees(graph, &mut work[..n], number.word, place.word, yes.word);
+    scores::score(scored, NEEDED, b"needed", same, record);
+    yes
 }
 
-fn replay_prepare(block: &mut [u8; 65536], r: Reader, scores: &mut [u64; 15]) -> Reader {
-    count(scores, PREPARE + 2);
-    skip_outcome(block, r)
+fn prepare_agrees(
+    block: &mut [u8; 65536],
+    r: Reader,
+    graph: &[u16],
+    output: &mut [u64],
+    work: &mut [u16],
+) -> Compared
+    requires { ⌜ length (now output) ≤ 32 ⌝ }
+{
+    outcome::soil(work);
+    let answer = answers::prepare(graph, output, work);
+    outcome::compare_outcome(block, r, answer, output, work)
 }
 
-// Both masks, and the rest as for `prepare`.
-fn replay_complete(block: &mut [u8; 65536], r: Reader, scores: &mut [u64; 15]) -> Reader {
-    count(scores, COMPLETE + 2);
-    let never = skip_mask(block, r);
-    let atom_never = skip_mask(block, never);
-    skip_outcome(block, atom_never)
+// The lengths of output and work area, then the outcome.
+fn replay_prepare(
+    block: &mut [u8; 65536],
+    r: Reader,
+    graph: &[u16],
+    work: &mut [u16],
+    scored: &mut [u64; 10],
+    record: u64,
+) -> Reader {
+    let lengths = outcome::read_lengths(block, r, work.len());
+    let area = lengths.reader;
+    if area.bad {
+        return area;
+    }
+    let k = lengths.output;
+    let n = lengths.work;
+    let mut room = outcome::wide_room();
+    let compared = prepare_agrees(block, area, graph, &mut room[..k], &mut work[..n]);
+    scores::score(scored, PREPARE, b"prepare", compared.same, record);
+    compared.reader
 }
 
-// The input, the number, the places and the text.
-fn replay_program(block: &mut [u8; 65536], r: Reader, scores: &mut [u64; 15]) -> Reader {
-    count(scores, PROGRAM + 2);
+fn complete_agrees(
+    block: &mut [u8; 65536],
+    r: Reader,
+    graph: &[u16],
+    never: &[u64],
+    atom_never: &[u64],
+    output: &mut [u64],
+    work: &mut [u16],
+) -> Compared
+    requires { ⌜ length (now output) ≤ 32 ⌝ }
+{
+    outcome::soil(work);
+    let answer = answers::complete(graph, never, atom_never, output, work);
+    outcome::compare_outcome(block, r, answer, output, work)
+}
+
+// `complete` from its second mask on: the rest is as for `prepare`.
+fn replay_pass(
+    block: &mut [u8; 65536],
+    r: Reader,
+    graph: &[u16],
+    never: &[u64],
+    atom_never: &mut [u64],
+    work: &mut [u16],
+    scored: &mut [u64; 10],
+    record: u64,
+) -> Reader {
+    let masks = recording::read_wide(block, r, atom_never);
+    let lengths = outcome::read_lengths(block, masks, work.len());
+    let area = lengths.reader;
+    if area.bad {
+        return area;
+    }
+    let k = lengths.output;
+    let n = lengths.work;
+    let mut room = outcome::wide_room();
+    let compared = complete_agrees(
+        block,
+        area,
+        graph,
+        never,
+        atom_never,
+        &mut room[..k],
+        &mut work[..n],
+    );
+    scores::score(scored, COMPLETE, b"complete", compared.same, record);
+    compared.reader
+}
+
+// `complete` from its first mask on.
+fn replay_masks(
+    block: &mut [u8; 65536],
+    r: Reader,
+    graph: &[u16],
+    never: &mut [u64],
+    work: &mut [u16],
+    scored: &mut [u64; 10],
+    record: u64,
+) -> Reader {
+    let mask = recording::read_wide(block, r, never);
+    let length = recording::next(block, mask);
+    let n = length.word as usize;
+    if 32 < n {
+        return recording::wrong(length);
+    }
+    let mut room = outcome::wide_room();
+    replay_pass(
+        block,
+        length,
+        graph,
+        never,
+        &mut room[..n],
+        work,
+        scored,
+        record,
+    )
+}
+
+// Both masks, each behind its length, and the rest.
+fn replay_complete(
+    block: &mut [u8; 65536],
+    r: Reader,
+    graph: &[u16],
+    work: &mut [u16],
+    scored: &mut [u64; 10],
+    record: u64,
+) -> Reader {
+    let length = recording::next(block, r);
+    let n = length.word as usize;
+    if 32 < n {
+        return recording::wrong(length);
+    }
+    let mut room = outcome::wide_room();
+    replay_masks(block, length, graph, &mut room[..n], work, scored, record)
+}
+
+// Number, places and text, beside the text that the program wrote. Of a 12 it is the text for the lowest place, which is the one that `report` gives.
+fn replay_text(
+    block: &mut [u8; 65536],
+    r: Reader,
+    written: &[u8],
+    scored: &mut [u64; 10],
+    record: u64,
+) -> Reader {
+    let number = recording::next(block, r);
+    let count = recording::next(block, number);
+    let places = recording::skip(block, count, count.word as usize);
+    let length = recording::next(block, places);
+    let n = length.word as usize;
+    if 6144 < n {
+        return recording::wrong(length);
+    }
+    let mut room = outcome::text_room();
+    let compared = outcome::compare_text(block, length, written, &mut room[..n]);
+    scores::score(scored, PROGRAM, b"program", compared.same, record);
+    compared.reader
+}
+
+// The program's input, read into lent room, and the rest.
+fn replay_input(
+    block: &mut [u8; 65536],
+    r: Reader,
+    input: &mut [u8],
+    scored: &mut [u64; 10],
+    record: u64,
+) -> Reader {
+    let whole = recording::read_bytes(block, r, input);
+    let mut out = outcome::text_room();
+    let n = report::report(input, &mut out);
+    replay_text(block, whole, &out[..n], scored, record)
+}
+
+// The input behind its length, and the rest.
+fn replay_program(
+    block: &mut [u8; 65536],
+    r: Reader,
+    bytes: &mut [u8],
+    scored: &mut [u64; 10],
+    record: u64,
+) -> Reader {
     let low = recording::next(block, r);
     let high = recording::next(block, low);
-    let input = recording::skip(block, high, padded(low.word, high.word));
-    let number = recording::next(block, input);
-    let places = skip_places(block, number);
-    let text = recording::next(block, places);
-    recording::skip(block, text, padded(text.word, 0))
+    let n = low.word as usize + 65536 * (high.word as usize);
+    if bytes.len() < n {
+        return recording::wrong(high);
+    }
+    replay_input(block, high, &mut bytes[..n], scored, record)
 }
 
 // ---- the records
@@ -171,16 +265,17 @@ fn replay_call(
     block: &mut [u8; 65536],
     r: Reader,
     graph: &[u16],
-    scores: &mut [u64; 15],
+    work: &mut [u16],
+    scored: &mut [u64; 10],
     record: u64,
 ) -> Reader {
     let which = recording::next(block, r);
     let n = which.word;
     match n {
-        1 => replay_check(block, which, graph, scores, record),
-        2 => replay_needed(block, which, scores),
-        3 => replay_prepare(block, which, scores),
-        4 => replay_complete(block, which, scores),
+        1 => replay_check(block, which, graph, scored, record),
+        2 => replay_needed(block, which, graph, work, scored, record),
+        3 => replay_prepare(block, which, graph, work, scored, record),
+        4 => replay_complete(block, which, graph, work, scored, record),
         _ => recording::wrong(which),
     }
 }
@@ -189,7 +284,8 @@ fn replay_calls(
     block: &mut [u8; 65536],
     from: Reader,
     graph: &[u16],
-    scores: &mut [u64; 15],
+    work: &mut [u16],
+    scored: &mut [u64; 10],
     record: u64,
 ) -> Reader {
     let mut r = recording::next(block, from);
@@ -199,7 +295,7 @@ fn replay_calls(
         if r.bad {
             return r;
         }
-        r = replay_call(block, r, graph, scores, record);
+        r = replay_call(block, r, graph, work, scored, record);
         i += 1;
     }
     r
@@ -210,7 +306,8 @@ fn replay_graph(
     block: &mut [u8; 65536],
     r: Reader,
     graph: &mut [u16],
-    scores: &mut [u64; 15],
+    work: &mut [u16],
+    scored: &mut [u64; 10],
     record: u64,
 ) -> Reader {
     let size = recording::next(block, r);
@@ -219,27 +316,35 @@ fn replay_graph(
         return recording::wrong(size);
     }
     let whole = recording::read(block, size, graph, n);
-    replay_calls(block, whole, &graph[..n], scores, record)
+    replay_calls(block, whole, &graph[..n], work, scored, record)
 }
 
 fn replay_record(
     block: &mut [u8; 65536],
     r: Reader,
     graph: &mut [u16],
-    scores: &mut [u64; 15],
+    work: &mut [u16],
+    bytes: &mut [u8],
+    scored: &mut [u64; 10],
     record: u64,
 ) -> Reader {
     let kind = recording::next(block, r);
     let n = kind.word;
     match n {
-        1 => replay_graph(block, kind, graph, scores, record),
-        2 => replay_program(block, kind, scores),
+        1 => replay_graph(block, kind, graph, work, scored, record),
+        2 => replay_program(block, kind, bytes, scored, record),
         _ => recording::wrong(kind),
     }
 }
 
 // The whole recording: its mark, its version and its records.
-fn replay(block: &mut [u8; 65536], graph: &mut [u16], scores: &mut [u64; 15]) -> Reader {
+fn replay(
+    block: &mut [u8; 65536],
+    graph: &mut [u16],
+    work: &mut [u16],
+    bytes: &mut [u8],
+    scored: &mut [u64; 10],
+) -> Reader {
     let mark = recording::expect(block, recording::start(), 0x5346);
     let version = recording::expect(block, mark, 1);
     let mut r = recording::next(block, version);
@@ -249,37 +354,53 @@ fn replay(block: &mut [u8; 65536], graph: &mut [u16], scores: &mut [u64; 15]) ->
         if r.bad {
             return r;
         }
-        r = replay_record(block, r, graph, scores, i);
+        r = replay_record(block, r, graph, work, bytes, scored, i);
         i += 1;
     }
     recording::expect_end(block, r)
 }
 
-fn report(r: Reader, scores: &[u64; 15]) {
+fn print_all(r: Reader, scored: &[u64; 10]) {
     if r.bad {
         io::write_all(1, b"malformed recording at word ");
         io::print_decimal(1, r.words);
         io::write_all(1, b"\n");
         return;
     }
-    print_score(scores, CHECK, b"check");
-    print_score(scores, NEEDED, b"needed");
-    print_score(scores, PREPARE, b"prepare");
-    print_score(scores, COMPLETE, b"complete");
-    print_score(scores, PROGRAM, b"program");
+    scores::print(scored, CHECK, b"check");
+    scores::print(scored, NEEDED, b"needed");
+    scores::print(scored, PREPARE, b"prepare");
+    scores::print(scored, COMPLETE, b"complete");
+    scores::print(scored, PROGRAM, b"program");
 }
 
 // Room for the longest graph.
-fn room() -> [u16; 13400]
+fn graph_room() -> [u16; 13400]
     ensures { λ r. ⌜ 13400 ≡ length r ⌝ }
 {
     [0; 13400]
 }
 
+// Room for the longest work area.
+fn work_room() -> [u16; 65536]
+    ensures { λ r. ⌜ 65536 ≡ length r ⌝ }
+{
+    [0; 65536]
+}
+
+// Room for the longest input.
+fn byte_room() -> [u8; 131072]
+    ensures { λ r. ⌜ 131072 ≡ length r ⌝ }
+{
+    [0; 131072]
+}
+
 fn main() {
     let mut block = io::large_buffer();
-    let mut graph = room();
-    let mut scores = [0u64; 15];
-    let r = replay(&mut block, &mut graph, &mut scores);
-    report(r, &scores);
+    let mut graph = graph_room();
+    let mut work = work_room();
+    let mut bytes = byte_room();
+    let mut scored = [0u64; 10];
+    let r = replay(&mut block, &mut graph, &mut work, &mut bytes, &mut scored);
+    print_all(r, &scored);
 }

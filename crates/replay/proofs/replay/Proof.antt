@@ -6,10 +6,10 @@ use Rattle.replay.proofs.replay.Statement.{statement}
 use Rattle.replay.proofs.replay.Tie as tie
 
 abbrev Inv-loop : tie.InvT-loop
-Inv-loop block₀ graph₀ scores₀ r₀ n i₀ block graph scores r i = length graph ≡ length graph₀
+Inv-loop block₀ graph₀ work₀ bytes₀ scored₀ r₀ n i₀ block graph work bytes scored r i = (length graph ≡ length graph₀) × (length work ≡ length work₀) × (length bytes ≡ length bytes₀)
 
 abbrev μ-loop : tie.MeasureT-loop
-μ-loop block₀ graph₀ scores₀ r₀ n i₀ block graph scores r i = n - i
+μ-loop block₀ graph₀ work₀ bytes₀ scored₀ r₀ n i₀ block graph work bytes scored r i = n - i
 
 start-requires : tie.Need-start-requires Inv-loop μ-loop
 start-requires c κs = search needs
@@ -32,6 +32,12 @@ loop-holds c = search needs
 same-length : tie.Need-same-length Inv-loop μ-loop
 same-length c = search needs
 
+same-length-2 : tie.Need-same-length-2 Inv-loop μ-loop
+same-length-2 c = search needs
+
+same-length-3 : tie.Need-same-length-3 Inv-loop μ-loop
+same-length-3 c = search needs
+
 returns : tie.Need-returns Inv-loop μ-loop
 returns c = search needs
 
@@ -50,8 +56,14 @@ loop-again c = search needs
 expect-end-requires : tie.Need-expect-end-requires Inv-loop μ-loop
 expect-end-requires c κs = search needs
 
-same-length-2 : tie.Need-same-length-2 Inv-loop μ-loop
-same-length-2 c = search needs
+same-length-4 : tie.Need-same-length-4 Inv-loop μ-loop
+same-length-4 c = search needs
+
+same-length-5 : tie.Need-same-length-5 Inv-loop μ-loop
+same-length-5 c = search needs
+
+same-length-6 : tie.Need-same-length-6 Inv-loop μ-loop
+same-length-6 c = search needs
 
 returns-2 : tie.Need-returns-2 Inv-loop μ-loop
 returns-2 c = search needs
@@ -69,11 +81,15 @@ replay-spec =
     cast-n
     loop-holds
     same-length
+    same-length-2
+    same-length-3
     returns
     replay-record-requires
     add-i
     loop-less
     loop-again
     expect-end-requires
-    same-length-2
+    same-length-4
+    same-length-5
+    same-length-6
     returns-2)

@@ -1,19 +1,24 @@
 use Prim.Native.Nat.{_-_}
+use mathlib.Core.Path.{_≡_}
+use lib.ListN.{length}
 use borrow.Author.Needs.{needs}
 use Rattle.replay.proofs.replay_calls.Statement.{statement}
 use Rattle.replay.proofs.replay_calls.Tie as tie
 
 abbrev Inv-loop : tie.InvT-loop
-Inv-loop block₀ graph scores₀ «record» r₀ n i₀ block scores r i = Unit {0}
+Inv-loop block₀ graph work₀ scored₀ «record» r₀ n i₀ block work scored r i = length work ≡ length work₀
 
 abbrev μ-loop : tie.MeasureT-loop
-μ-loop block₀ graph scores₀ «record» r₀ n i₀ block scores r i = n - i
+μ-loop block₀ graph work₀ scored₀ «record» r₀ n i₀ block work scored r i = n - i
 
 next-requires : tie.Need-next-requires Inv-loop μ-loop
 next-requires c κs = search needs
 
 loop-holds : tie.Need-loop-holds Inv-loop μ-loop
 loop-holds c = search needs
+
+same-length : tie.Need-same-length Inv-loop μ-loop
+same-length c = search needs
 
 returns : tie.Need-returns Inv-loop μ-loop
 returns c = search needs
@@ -30,6 +35,9 @@ loop-less c = search needs
 loop-again : tie.Need-loop-again Inv-loop μ-loop
 loop-again c = search needs
 
+same-length-2 : tie.Need-same-length-2 Inv-loop μ-loop
+same-length-2 c = search needs
+
 returns-2 : tie.Need-returns-2 Inv-loop μ-loop
 returns-2 c = search needs
 
@@ -41,9 +49,11 @@ replay-calls-spec =
     μ-loop
     next-requires
     loop-holds
+    same-length
     returns
     replay-call-requires
     add-i
     loop-less
     loop-again
+    same-length-2
     returns-2)

@@ -32,6 +32,9 @@ replay-calls-requires c κs = search needs
 same-length : tie.Need-same-length
 same-length c = search needs
 
+same-length-2 : tie.Need-same-length-2
+same-length-2 c = search needs
+
 returns-2 : tie.Need-returns-2
 returns-2 c = search needs
 
@@ -48,4 +51,5 @@ replay-graph-spec =
     slice-aggregate-replay-calls
     replay-calls-requires
     same-length
+    same-length-2
     returns-2)
