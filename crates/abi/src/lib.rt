@@ -1,0 +1,110 @@
+// The four calls for C and Rust to link: numbers and slices alone. A slice crosses as a pointer and a length.
+ghost use Prim.Native.Nat.{_≤_};
+ghost use Rattle.theory.specs.Accepted.{edition1};
+ghost use Rattle.graph.specs.Answer.{refuse};
+ghost use Rattle.graph.specs.Refusals.{graphAnswer, answerOf};
+ghost use Rattle.cycles.specs.Outcome.{outcomeOf};
+ghost use Rattle.founded.specs.Answers.{preparedOf, completedOf};
+ghost use Rattle.abi.specs.Codes.{Tells, NeedTells, Needed, PreparedAs, CompletedAs};
+use cycles::Need;
+use founded::Completed;
+use founded::Prepared;
+use graph::Checked;
+
+// A refusal's code.
+fn code(number: u32, place: u16) -> u32
+    requires { ⌜ number ≤ 12 ⌝ }
+    ensures { λ r. ⌜ Tells (refuse number place) r ⌝ }
+{
+    number * 65536 + (place as u32)
+}
+
+fn checked_code(c: Checked) -> u32
+    ensures { λ r. ⌜ Tells (answerOf c) r ⌝ }
+{
+    match c {
+        Checked::Accepted => 0,
+        Checked::Edition => code(1, 0),
+        Checked::Counts => code(2, 0),
+        Checked::Size => code(3, 0),
+        Checked::Node(n) => code(4, n),
+        Checked::Producer(p) => code(5, p),
+        Checked::Link(l) => code(6, l),
+        Checked::Leaf(n) => code(7, n),
+        Checked::Head(p) => code(8, p),
+        Checked::Entries => code(9, 0),
+    }
+}
+
+fn needed_code(n: Need) -> u32
+    ensures { λ r. ⌜ NeedTells (outcomeOf n) r ⌝ }
+{
+    match n {
+        Need::No => 0,
+        Need::Yes => 1,
+        Need::Refused(c) => checked_code(c),
+        Need::Work => code(11, 0),
+    }
+}
+
+fn prepared_code(p: Prepared) -> u32
+    ensures { λ r. ⌜ Tells (preparedOf p) r ⌝ }
+{
+    match p {
+        Prepared::Done => 0,
+        Prepared::Refused(c) => checked_code(c),
+        Prepared::Output => code(10, 0),
+        Prepared::Work => code(11, 0),
+        Prepared::Absorbed(n) => code(12, n),
+    }
+}
+
+fn completed_code(c: Completed) -> u32
+    ensures { λ r. ⌜ Tells (completedOf c) r ⌝ }
+{
+    match c {
+        Completed::Done => 0,
+        Completed::Refused(checked) => checked_code(checked),
+        Completed::Lengths => code(10, 0),
+        Completed::Work => code(11, 0),
+        Completed::Absorbed(n) => code(12, n),
+    }
+}
+
+// The graph check.
+#[no_mangle]
+pub extern "C" fn founded_check(graph: &[u16]) -> u32
+    ensures { λ r. ⌜ Tells (graphAnswer edition1 (now (graph .entry))) r ⌝ }
+{
+    checked_code(graph::check(graph))
+}
+
+// The loop test.
+#[no_mangle]
+pub extern "C" fn founded_needed(graph: &[u16], work: &mut [u16]) -> u32
+    ensures { λ r. ⌜ Needed (now (graph .entry)) (now (work .entry)) (now (work .exit)) r ⌝ }
+{
+    needed_code(cycles::needed(graph, work))
+}
+
+// Preparation: the cyclic atoms.
+#[no_mangle]
+pub extern "C" fn founded_prepare(graph: &[u16], output: &mut [u64], work: &mut [u16]) -> u32
+    ensures { λ r. ⌜ PreparedAs (now (graph .entry)) (now (output .entry)) (now (work .entry)) (now (output .exit)) (now (work .exit)) r ⌝ }
+{
+    prepared_code(founded::prepare(graph, output, work))
+}
+
+// The pass: the missing atoms.
+#[no_mangle]
+pub extern "C" fn founded_complete(
+    graph: &[u16],
+    never: &[u64],
+    atom_never: &[u64],
+    output: &mut [u64],
+    work: &mut [u16],
+) -> u32
+    ensures { λ r. ⌜ CompletedAs (now (graph .entry)) (now (never .entry)) (now («atom_never» .entry)) (now (output .entry)) (now (work .entry)) (now (output .exit)) (now (work .exit)) r ⌝ }
+{
+    completed_code(founded::complete(graph, never, atom_never, output, work))
+}
