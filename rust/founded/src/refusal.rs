@@ -1,0 +1,129 @@
+use std::error::Error;
+use std::fmt;
+
+use crate::{NodeId, ProducerId};
+
+/// A call turned away: one case for each number of document 01's table, "Where a call is turned away". Of several that apply a call gives the lowest.
+#[derive(Clone, Copy, Debug, PartialEq, Eq, Hash)]
+#[non_exhaustive]
+pub enum Refusal {
+    /// 1: fewer than 5 words, or edition not 1.
+    Edition,
+    /// 2: A, N or P above 1,024, or K above 4,096.
+    Counts,
+    /// 3: length isn't 5 + 3N + 2P + 2K.
+    Size,
+    /// 4: a node record that is none. The first such node.
+    Node(NodeId),
+    /// 5: body + 1 above N, or first link above K. The first such producer.
+    Producer(ProducerId),
+    /// 6: next is above K, or is neither 0 nor greater than the link's own number. The first such link, numbered from 1.
+    Link(u16),
+    /// 7: a leaf not below its own node's number. The first such node.
+    Leaf(NodeId),
+    /// 8: a head not below A. The first such producer.
+    Head(ProducerId),
+    /// 9: more than 4,096 leaf entries or more than 4,096 head entries.
+    Entries,
+    /// 10: a mask or the output has another length than the graph asks for.
+    Lengths,
+    /// 11: the work area is not exactly 32,768 words.
+    Work,
+    /// 12: the body cone (document 01: the first cone) holds an absorbed node. One such node.
+    Absorbed(NodeId),
+}
+
+impl Refusal {
+    /// The refusal of this number and place; the place counts only where the number has one. None for a number that no refusal has.
+    #[must_use]
+    pub fn of(number: u16, place: u16) -> Option<Self> {
+        Some(match number {
+            1 => Self::Edition,
+            2 => Self::Counts,
+            3 => Self::Size,
+            4 => Self::Node(NodeId(place)),
+            5 => Self::Producer(ProducerId(place)),
+            6 => Self::Link(place),
+            7 => Self::Leaf(NodeId(place)),
+            8 => Self::Head(ProducerId(place)),
+            9 => Self::Entries,
+            10 => Self::Lengths,
+            11 => Self::Work,
+            12 => Self::Absorbed(NodeId(place)),
+            _ => return None,
+        })
+    }
+
+    /// The number in document 01's table, 1 to 12.
+    #[must_use]
+    pub fn number(self) -> u16 {
+        match self {
+            Self::Edition => 1,
+            Self::Counts => 2,
+            Self::Size => 3,
+            Self::Node(_) => 4,
+            Self::Producer(_) => 5,
+            Self::Link(_) => 6,
+            Self::Leaf(_) => 7,
+            Self::Head(_) => 8,
+            Self::Entries => 9,
+            Self::Lengths => 10,
+            Self::Work => 11,
+            Self::Absorbed(_) => 12,
+        }
+    }
+
+    /// The place returned beside the number; 0 where the number has none.
+    #[must_use]
+    pub fn place(self) -> u16 {
+        match self {
+            Self::Node(NodeId(n)) | Self::Leaf(NodeId(n)) | Self::Absorbed(NodeId(n)) => n,
+            Self::Producer(ProducerId(p)) | Self::Head(ProducerId(p)) => p,
+            Self::Link(l) => l,
+            Self::Edition
+            | Self::Counts
+            | Self::Size
+            | Self::Entries
+            | Self::Lengths
+            | Self::Work => 0,
+        }
+    }
+
+    /// Document 01's words for the number. Its conditions are our nodes, its rules our producers.
+    fn words(self) -> &'static str {
+        match self {
+            Self::Edition => "fewer than 5 words, or edition not 1",
+            Self::Counts => "A, N or P above 1,024, or K above 4,096",
+            Self::Size => "length isn't 5 + 3N + 2P + 2K",
+            Self::Node(_) => {
+                "kind above 7; operand of an Atom not below A; operand of another kind not 0; first link above K; first link not 0 outside And and Or"
+            }
+            Self::Producer(_) => "body + 1 above N, or first link above K",
+            Self::Link(_) => {
+                "next is above K, or is neither 0 nor greater than the link's own number"
+            }
+            Self::Leaf(_) => "a leaf not below its own condition's number",
+            Self::Head(_) => "a head not below A",
+            Self::Entries => "more than 4,096 leaf entries or more than 4,096 head entries",
+            Self::Lengths => {
+                "the node mask isn't ⌈N/64⌉ words long, or the atom mask or the output isn't ⌈A/64⌉"
+            }
+            Self::Work => "not exactly 32,768 16-bit words",
+            Self::Absorbed(_) => "the first cone holds a condition of kind 7",
+        }
+    }
+}
+
+impl fmt::Display for Refusal {
+    fn fmt(&self, f: &mut fmt::Formatter<'_>) -> fmt::Result {
+        write!(
+            f,
+            "refused {} {}: {}",
+            self.number(),
+            self.place(),
+            self.words()
+        )
+    }
+}
+
+impl Error for Refusal {}
