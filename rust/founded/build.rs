@@ -41,4 +41,5 @@ fn main() {
         Path::new(&out).display()
     );
     println!("cargo:rustc-link-lib=static=abi");
+    println!("cargo:rustc-env=FOUNDED_LINKED={}", copy.display());
 }

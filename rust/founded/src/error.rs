@@ -15,7 +15,7 @@ pub enum Error {
     NoAtom(AtomId),
     /// No such node in this theory or graph.
     NoNode(NodeId),
-    /// A leaf is added before the And or Or that lists it.
+    /// A leaf is not below the And or Or that lists it: leaves are added first.
     LeafNotBelow {
         leaf: NodeId,
         node: NodeId,
