@@ -1,265 +1,26 @@
 // Replays a recording of answers from standard input (README.md has its format) and prints how many of them agree.
 mod answers;
+mod calls;
 mod outcome;
 
 ghost use mathlib.Core.Path.{_≡_};
-ghost use Prim.Native.Nat.{_≤_};
+ghost use Prim.Native.Nat.{_<_};
 ghost use lib.ListN.{length};
 use outcome::Compared;
 use recording::Reader;
 use recording::scores;
 
-// The calls' places in the scores.
-const CHECK: usize = 0;
-
-const NEEDED: usize = 2;
-
-const PREPARE: usize = 4;
-
-const COMPLETE: usize = 6;
-
-const PROGRAM: usize = 8;
-
-// ---- the calls, each replayed in its one function
-
-// Number and place.
-fn replay_check(
-    block: &mut [u8; 65536],
-    r: Reader,
-    graph: &[u16],
-    scored: &mut [u64; 10],
-    record: u64,
-) -> Reader {
-    let number = recording::next(block, r);
-    let place = recording::next(block, number);
-    if place.bad {
-        return place;
-    }
-    let same = answers::check(graph) == answers::code(number.word, place.word);
-    scores::score(scored, CHECK, b"check", same, record);
-    place
-}
-
-// Whether `needed` answers this and leaves the work area as it should.
-fn needed_agrees(graph: &[u16], work: &mut [u16], number: u16, place: u16, yes: u16) -> bool {
-    outcome::soil(work);
-    let answer = answers::needed(graph, work);
-    let expected = if number == 0 {
-        yes as u32
-    } else {
-        answers::code(number, place)
-    };
-    answer == expected && outcome::work_agrees(work, number)
-}
-
-// Work length, number, place and answer.
-fn replay_needed(
-    block: &mut [u8; 65536],
-    r: Reader,
-    graph: &[u16],
-    work: &mut [u16],
-    scored: &mut [u64; 10],
-    record: u64,
-) -> Reader {
-    let length = recording::next(block, r);
-    let number = recording::next(block, length);
-    let place = recording::next(block, number);
-    let yes = recording::next(block, place);
-    let n = length.word as usize;
-    if work.len() < n || yes.bad {
-        return recording::wrong(yes);
-    }
-    let same = needed_agrees(graph, &mut work[..n], number.word, place.word, yes.word);
-    scores::score(scored, NEEDED, b"needed", same, record);
-    yes
-}
-
-fn prepare_agrees(
-    block: &mut [u8; 65536],
-    r: Reader,
-    graph: &[u16],
-    output: &mut [u64],
-    work: &mut [u16],
-) -> Compared
-    requires { ⌜ length (now output) ≤ 32 ⌝ }
+// Scores what was compared, unless the recording is malformed there.
+fn finish(compared: Compared, scored: &mut [u64; 10], call: usize, record: u64) -> Reader
+    requires { ⌜ call < 5 ⌝ }
 {
-    outcome::soil(work);
-    let answer = answers::prepare(graph, output, work);
-    outcome::compare_outcome(block, r, answer, output, work)
-}
-
-// The lengths of output and work area, then the outcome.
-fn replay_prepare(
-    block: &mut [u8; 65536],
-    r: Reader,
-    graph: &[u16],
-    work: &mut [u16],
-    scored: &mut [u64; 10],
-    record: u64,
-) -> Reader {
-    let lengths = outcome::read_lengths(block, r, work.len());
-    let area = lengths.reader;
-    if area.bad {
-        return area;
+    let reader = compared.reader;
+    if reader.bad {
+        return reader;
     }
-    let k = lengths.output;
-    let n = lengths.work;
-    let mut room = outcome::wide_room();
-    let compared = prepare_agrees(block, area, graph, &mut room[..k], &mut work[..n]);
-    scores::score(scored, PREPARE, b"prepare", compared.same, record);
-    compared.reader
+    scores::score(scored, call, compared.same, record);
+    reader
 }
-
-fn complete_agrees(
-    block: &mut [u8; 65536],
-    r: Reader,
-    graph: &[u16],
-    never: &[u64],
-    atom_never: &[u64],
-    output: &mut [u64],
-    work: &mut [u16],
-) -> Compared
-    requires { ⌜ length (now output) ≤ 32 ⌝ }
-{
-    outcome::soil(work);
-    let answer = answers::complete(graph, never, atom_never, output, work);
-    outcome::compare_outcome(block, r, answer, output, work)
-}
-
-// `complete` from its second mask on: the rest is as for `prepare`.
-fn replay_pass(
-    block: &mut [u8; 65536],
-    r: Reader,
-    graph: &[u16],
-    never: &[u64],
-    atom_never: &mut [u64],
-    work: &mut [u16],
-    scored: &mut [u64; 10],
-    record: u64,
-) -> Reader {
-    let masks = recording::read_wide(block, r, atom_never);
-    let lengths = outcome::read_lengths(block, masks, work.len());
-    let area = lengths.reader;
-    if area.bad {
-        return area;
-    }
-    let k = lengths.output;
-    let n = lengths.work;
-    let mut room = outcome::wide_room();
-    let compared = complete_agrees(
-        block,
-        area,
-        graph,
-        never,
-        atom_never,
-        &mut room[..k],
-        &mut work[..n],
-    );
-    scores::score(scored, COMPLETE, b"complete", compared.same, record);
-    compared.reader
-}
-
-// `complete` from its first mask on.
-fn replay_masks(
-    block: &mut [u8; 65536],
-    r: Reader,
-    graph: &[u16],
-    never: &mut [u64],
-    work: &mut [u16],
-    scored: &mut [u64; 10],
-    record: u64,
-) -> Reader {
-    let mask = recording::read_wide(block, r, never);
-    let length = recording::next(block, mask);
-    let n = length.word as usize;
-    if 32 < n {
-        return recording::wrong(length);
-    }
-    let mut room = outcome::wide_room();
-    replay_pass(
-        block,
-        length,
-        graph,
-        never,
-        &mut room[..n],
-        work,
-        scored,
-        record,
-    )
-}
-
-// Both masks, each behind its length, and the rest.
-fn replay_complete(
-    block: &mut [u8; 65536],
-    r: Reader,
-    graph: &[u16],
-    work: &mut [u16],
-    scored: &mut [u64; 10],
-    record: u64,
-) -> Reader {
-    let length = recording::next(block, r);
-    let n = length.word as usize;
-    if 32 < n {
-        return recording::wrong(length);
-    }
-    let mut room = outcome::wide_room();
-    replay_masks(block, length, graph, &mut room[..n], work, scored, record)
-}
-
-// Number, places and text, beside the text that the program wrote. Of a 12 it is the text for the lowest place, which is the one that `report` gives.
-fn replay_text(
-    block: &mut [u8; 65536],
-    r: Reader,
-    written: &[u8],
-    scored: &mut [u64; 10],
-    record: u64,
-) -> Reader {
-    let number = recording::next(block, r);
-    let count = recording::next(block, number);
-    let places = recording::skip(block, count, count.word as usize);
-    let length = recording::next(block, places);
-    let n = length.word as usize;
-    if 6144 < n {
-        return recording::wrong(length);
-    }
-    let mut room = outcome::text_room();
-    let compared = outcome::compare_text(block, length, written, &mut room[..n]);
-    scores::score(scored, PROGRAM, b"program", compared.same, record);
-    compared.reader
-}
-
-// The program's input, read into lent room, and the rest.
-fn replay_input(
-    block: &mut [u8; 65536],
-    r: Reader,
-    input: &mut [u8],
-    scored: &mut [u64; 10],
-    record: u64,
-) -> Reader {
-    let whole = recording::read_bytes(block, r, input);
-    let mut out = outcome::text_room();
-    let n = report::report(input, &mut out);
-    replay_text(block, whole, &out[..n], scored, record)
-}
-
-// The input behind its length, and the rest.
-fn replay_program(
-    block: &mut [u8; 65536],
-    r: Reader,
-    bytes: &mut [u8],
-    scored: &mut [u64; 10],
-    record: u64,
-) -> Reader {
-    let low = recording::next(block, r);
-    let high = recording::next(block, low);
-    let n = low.word as usize + 65536 * (high.word as usize);
-    if bytes.len() < n {
-        return recording::wrong(high);
-    }
-    replay_input(block, high, &mut bytes[..n], scored, record)
-}
-
-// ---- the records
 
 fn replay_call(
     block: &mut [u8; 65536],
@@ -270,14 +31,15 @@ fn replay_call(
     record: u64,
 ) -> Reader {
     let which = recording::next(block, r);
-    let n = which.word;
-    match n {
-        1 => replay_check(block, which, graph, scored, record),
-        2 => replay_needed(block, which, graph, work, scored, record),
-        3 => replay_prepare(block, which, graph, work, scored, record),
-        4 => replay_complete(block, which, graph, work, scored, record),
-        _ => recording::wrong(which),
+    let n = which.word as usize;
+    if n < 1 {
+        return recording::wrong(which);
     }
+    if 4 < n {
+        return recording::wrong(which);
+    }
+    let compared = calls::compare_call(block, which, graph, work);
+    finish(compared, scored, n - 1, record)
 }
 
 fn replay_calls(
@@ -332,7 +94,12 @@ fn replay_record(
     let n = kind.word;
     match n {
         1 => replay_graph(block, kind, graph, work, scored, record),
-        2 => replay_program(block, kind, bytes, scored, record),
+        2 => finish(
+            calls::compare_program(block, kind, bytes),
+            scored,
+            4,
+            record,
+        ),
         _ => recording::wrong(kind),
     }
 }
@@ -367,11 +134,7 @@ fn print_all(r: Reader, scored: &[u64; 10]) {
         io::write_all(1, b"\n");
         return;
     }
-    scores::print(scored, CHECK, b"check");
-    scores::print(scored, NEEDED, b"needed");
-    scores::print(scored, PREPARE, b"prepare");
-    scores::print(scored, COMPLETE, b"complete");
-    scores::print(scored, PROGRAM, b"program");
+    scores::print(scored);
 }
 
 // Room for the longest graph.

@@ -75,6 +75,14 @@ pub struct Compared {
     pub same: bool,
 }
 
+// The recording's last word is none that can stand there.
+pub fn malformed(r: Reader) -> Compared {
+    Compared {
+        reader: recording::wrong(r),
+        same: false,
+    }
+}
+
 // The output's words, read into lent room.
 fn compare_output(
     block: &mut [u8; 65536],
@@ -124,10 +132,7 @@ fn compare_refused(
     let count = recording::next(block, number);
     let n = count.word as usize;
     if 1024 < n {
-        return Compared {
-            reader: recording::wrong(count),
-            same: false,
-        };
+        return malformed(count);
     }
     let mut places = place_room();
     let listed = recording::read(block, count, &mut places, n);
@@ -161,7 +166,7 @@ pub fn compare_outcome(
 }
 
 // The text, read into lent room.
-pub fn compare_text(
+pub fn compare_bytes(
     block: &mut [u8; 65536],
     r: Reader,
     written: &[u8],

@@ -11,8 +11,8 @@ next-requires c κs = search needs
 cast-n : tie.Need-cast-n
 cast-n c = search needs
 
-wrong-requires : tie.Need-wrong-requires
-wrong-requires c κs = search needs
+malformed-requires : tie.Need-malformed-requires
+malformed-requires c κs = search needs
 
 returns : tie.Need-returns
 returns c = search needs
@@ -68,7 +68,7 @@ compare-refused-spec =
     (tie.spec
     next-requires
     cast-n
-    wrong-requires
+    malformed-requires
     returns
     place-room-requires
     slice-aggregate-read

@@ -2,8 +2,8 @@ use mathlib.Core.Path.{sym}
 use native.Mathlib.Omega.{arith}
 use lib.Seq.{length-take-le}
 use borrow.Author.Needs.{needs}
-use Rattle.replay.proofs.replay_needed.Statement.{statement}
-use Rattle.replay.proofs.replay_needed.Tie as tie
+use Rattle.replay.proofs.calls.compare_needed.Statement.{statement}
+use Rattle.replay.proofs.calls.compare_needed.Tie as tie
 
 next-requires : tie.Need-next-requires
 next-requires c κs = search needs
@@ -20,8 +20,8 @@ next-requires-4 c κs = search needs
 cast-n : tie.Need-cast-n
 cast-n c = search needs
 
-wrong-requires : tie.Need-wrong-requires
-wrong-requires c κs = search needs
+malformed-requires : tie.Need-malformed-requires
+malformed-requires c κs = search needs
 
 returns : tie.Need-returns
 returns c = search needs
@@ -35,20 +35,14 @@ slice-aggregate-needed-agrees c = sym (length-take-le _ _ (omega arith))
 needed-agrees-requires : tie.Need-needed-agrees-requires
 needed-agrees-requires c κs = search needs
 
-slice-aggregate-score : tie.Need-slice-aggregate-score
-slice-aggregate-score c = search needs
-
-score-requires : tie.Need-score-requires
-score-requires c κs = search needs
-
 same-length : tie.Need-same-length
 same-length c = search needs
 
 returns-2 : tie.Need-returns-2
 returns-2 c = search needs
 
-pub replay-needed-spec : {M : Type 1} → statement M
-replay-needed-spec =
+pub compare-needed-spec : {M : Type 1} → statement M
+compare-needed-spec =
     tie.close
     (tie.spec
     next-requires
@@ -56,12 +50,10 @@ replay-needed-spec =
     next-requires-3
     next-requires-4
     cast-n
-    wrong-requires
+    malformed-requires
     returns
     slice-relend-prefix-needed-agrees
     slice-aggregate-needed-agrees
     needed-agrees-requires
-    slice-aggregate-score
-    score-requires
     same-length
     returns-2)

@@ -1,22 +1,16 @@
 use mathlib.Core.Path.{sym}
 use native.Mathlib.Omega.{arith}
-use lib.ListN.{length-take}
 use lib.Seq.{length-take-le}
+use lib.ListN.{length-take}
 use borrow.Author.Needs.{needs}
-use Rattle.replay.proofs.replay_pass.Statement.{statement}
-use Rattle.replay.proofs.replay_pass.Tie as tie
+use Rattle.replay.proofs.calls.compare_pass.Statement.{statement}
+use Rattle.replay.proofs.calls.compare_pass.Tie as tie
 
 read-wide-requires : tie.Need-read-wide-requires
 read-wide-requires c κs = search needs
 
 read-lengths-requires : tie.Need-read-lengths-requires
 read-lengths-requires c κs = search needs
-
-same-length : tie.Need-same-length
-same-length c = search needs
-
-returns : tie.Need-returns
-returns c = search needs
 
 wide-room-requires : tie.Need-wide-room-requires
 wide-room-requires c κs = search needs
@@ -36,37 +30,27 @@ slice-aggregate-complete-agrees-2 c = sym (length-take-le _ _ (omega arith))
 complete-agrees-requires : tie.Need-complete-agrees-requires
 complete-agrees-requires c κs = rw length-take (omega arith)
 
-slice-aggregate-score : tie.Need-slice-aggregate-score
-slice-aggregate-score c = search needs
-
-score-requires : tie.Need-score-requires
-score-requires c κs = search needs
+same-length : tie.Need-same-length
+same-length c = search needs
 
 same-length-2 : tie.Need-same-length-2
 same-length-2 c = search needs
 
-same-length-3 : tie.Need-same-length-3
-same-length-3 c = search needs
+returns : tie.Need-returns
+returns c = search needs
 
-returns-2 : tie.Need-returns-2
-returns-2 c = search needs
-
-pub replay-pass-spec : {M : Type 1} → statement M
-replay-pass-spec =
+pub compare-pass-spec : {M : Type 1} → statement M
+compare-pass-spec =
     tie.close
     (tie.spec
     read-wide-requires
     read-lengths-requires
-    same-length
-    returns
     wide-room-requires
     array-borrow-prefix-room
     slice-aggregate-complete-agrees
     slice-relend-prefix-complete-agrees
     slice-aggregate-complete-agrees-2
     complete-agrees-requires
-    slice-aggregate-score
-    score-requires
+    same-length
     same-length-2
-    same-length-3
-    returns-2)
+    returns)

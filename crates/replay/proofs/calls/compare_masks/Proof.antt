@@ -2,8 +2,8 @@ use mathlib.Core.Path.{sym}
 use native.Mathlib.Omega.{arith}
 use lib.Seq.{length-take-le}
 use borrow.Author.Needs.{needs}
-use Rattle.replay.proofs.replay_masks.Statement.{statement}
-use Rattle.replay.proofs.replay_masks.Tie as tie
+use Rattle.replay.proofs.calls.compare_masks.Statement.{statement}
+use Rattle.replay.proofs.calls.compare_masks.Tie as tie
 
 read-wide-requires : tie.Need-read-wide-requires
 read-wide-requires c κs = search needs
@@ -14,8 +14,8 @@ next-requires c κs = search needs
 cast-n : tie.Need-cast-n
 cast-n c = search needs
 
-wrong-requires : tie.Need-wrong-requires
-wrong-requires c κs = search needs
+malformed-requires : tie.Need-malformed-requires
+malformed-requires c κs = search needs
 
 same-length : tie.Need-same-length
 same-length c = search needs
@@ -29,11 +29,11 @@ wide-room-requires c κs = search needs
 array-borrow-prefix-room : tie.Need-array-borrow-prefix-room
 array-borrow-prefix-room c = search needs
 
-slice-aggregate-replay-pass : tie.Need-slice-aggregate-replay-pass
-slice-aggregate-replay-pass c = sym (length-take-le _ _ (omega arith))
+slice-aggregate-compare-pass : tie.Need-slice-aggregate-compare-pass
+slice-aggregate-compare-pass c = sym (length-take-le _ _ (omega arith))
 
-replay-pass-requires : tie.Need-replay-pass-requires
-replay-pass-requires c κs = search needs
+compare-pass-requires : tie.Need-compare-pass-requires
+compare-pass-requires c κs = search needs
 
 same-length-2 : tie.Need-same-length-2
 same-length-2 c = search needs
@@ -44,20 +44,20 @@ same-length-3 c = search needs
 returns-2 : tie.Need-returns-2
 returns-2 c = search needs
 
-pub replay-masks-spec : {M : Type 1} → statement M
-replay-masks-spec =
+pub compare-masks-spec : {M : Type 1} → statement M
+compare-masks-spec =
     tie.close
     (tie.spec
     read-wide-requires
     next-requires
     cast-n
-    wrong-requires
+    malformed-requires
     same-length
     returns
     wide-room-requires
     array-borrow-prefix-room
-    slice-aggregate-replay-pass
-    replay-pass-requires
+    slice-aggregate-compare-pass
+    compare-pass-requires
     same-length-2
     same-length-3
     returns-2)

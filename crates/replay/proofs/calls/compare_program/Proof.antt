@@ -2,8 +2,8 @@ use mathlib.Core.Path.{sym}
 use native.Mathlib.Omega.{arith}
 use lib.Seq.{length-take-le}
 use borrow.Author.Needs.{needs}
-use Rattle.replay.proofs.replay_program.Statement.{statement}
-use Rattle.replay.proofs.replay_program.Tie as tie
+use Rattle.replay.proofs.calls.compare_program.Statement.{statement}
+use Rattle.replay.proofs.calls.compare_program.Tie as tie
 
 next-requires : tie.Need-next-requires
 next-requires c κs = search needs
@@ -23,20 +23,20 @@ mul-n c = search needs
 add-n : tie.Need-add-n
 add-n c = search needs
 
-wrong-requires : tie.Need-wrong-requires
-wrong-requires c κs = search needs
+malformed-requires : tie.Need-malformed-requires
+malformed-requires c κs = search needs
 
 returns : tie.Need-returns
 returns c = search needs
 
-slice-relend-prefix-replay-input : tie.Need-slice-relend-prefix-replay-input
-slice-relend-prefix-replay-input c = search needs
+slice-relend-prefix-compare-input : tie.Need-slice-relend-prefix-compare-input
+slice-relend-prefix-compare-input c = search needs
 
-slice-aggregate-replay-input : tie.Need-slice-aggregate-replay-input
-slice-aggregate-replay-input c = sym (length-take-le _ _ (omega arith))
+slice-aggregate-compare-input : tie.Need-slice-aggregate-compare-input
+slice-aggregate-compare-input c = sym (length-take-le _ _ (omega arith))
 
-replay-input-requires : tie.Need-replay-input-requires
-replay-input-requires c κs = search needs
+compare-input-requires : tie.Need-compare-input-requires
+compare-input-requires c κs = search needs
 
 same-length : tie.Need-same-length
 same-length c = search needs
@@ -44,8 +44,8 @@ same-length c = search needs
 returns-2 : tie.Need-returns-2
 returns-2 c = search needs
 
-pub replay-program-spec : {M : Type 1} → statement M
-replay-program-spec =
+pub compare-program-spec : {M : Type 1} → statement M
+compare-program-spec =
     tie.close
     (tie.spec
     next-requires
@@ -54,10 +54,10 @@ replay-program-spec =
     cast-n-2
     mul-n
     add-n
-    wrong-requires
+    malformed-requires
     returns
-    slice-relend-prefix-replay-input
-    slice-aggregate-replay-input
-    replay-input-requires
+    slice-relend-prefix-compare-input
+    slice-aggregate-compare-input
+    compare-input-requires
     same-length
     returns-2)
