@@ -1,16 +1,20 @@
 // The calls and the program, each compared with what is recorded of it.
 ghost use Prim.Native.Nat.{_≤_};
 ghost use lib.ListN.{length};
-use super::answers;
 use super::outcome;
 use super::outcome::Compared;
 use recording::Reader;
+
+// The one number of a refusal, as the archive's calls have it.
+fn code(number: u16, place: u16) -> u32 {
+    65536 * (number as u32) + place as u32
+}
 
 // Number and place.
 fn compare_check(block: &mut [u8; 65536], r: Reader, graph: &[u16]) -> Compared {
     let number = recording::next(block, r);
     let place = recording::next(block, number);
-    let same = answers::check(graph) == answers::code(number.word, place.word);
+    let same = abi::founded_check(graph) == code(number.word, place.word);
     Compared {
         reader: place,
         same: same,
@@ -20,11 +24,11 @@ fn compare_check(block: &mut [u8; 65536], r: Reader, graph: &[u16]) -> Compared 
 // Whether `needed` answers this and leaves the work area as it should.
 fn needed_agrees(graph: &[u16], work: &mut [u16], number: u16, place: u16, yes: u16) -> bool {
     outcome::soil(work);
-    let answer = answers::needed(graph, work);
+    let answer = abi::founded_needed(graph, work);
     let expected = if number == 0 {
         yes as u32
     } else {
-        answers::code(number, place)
+        code(number, place)
     };
     answer == expected && outcome::work_agrees(work, number)
 }
@@ -56,7 +60,7 @@ fn prepare_agrees(
     requires { ⌜ length (now output) ≤ 32 ⌝ }
 {
     outcome::soil(work);
-    let answer = answers::prepare(graph, output, work);
+    let answer = abi::founded_prepare(graph, output, work);
     outcome::compare_outcome(block, r, answer, output, work)
 }
 
@@ -87,7 +91,7 @@ fn complete_agrees(
     requires { ⌜ length (now output) ≤ 32 ⌝ }
 {
     outcome::soil(work);
-    let answer = answers::complete(graph, never, atom_never, output, work);
+    let answer = abi::founded_complete(graph, never, atom_never, output, work);
     outcome::compare_outcome(block, r, answer, output, work)
 }
 

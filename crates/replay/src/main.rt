@@ -1,5 +1,4 @@
 // Replays a recording of answers from standard input (README.md has its format) and prints how many of them agree.
-mod answers;
 mod calls;
 mod outcome;
 
