@@ -2,7 +2,8 @@
 
 use std::collections::BTreeMap;
 
-use crate::agree::{Difference, Tally, compare};
+use crate::agree::{Difference, Masks, Tally, compare, wrong_lengths};
+use crate::ours::{Calls, Ours};
 use crate::random::SCALES;
 use crate::rng::Rng;
 use crate::tiny::Sizes;
@@ -23,14 +24,35 @@ pub fn patterns(counts: [u16; 4]) -> Compared {
 }
 
 /// What is visited, compared up to the first difference.
-fn collect(each: impl FnOnce(&mut dyn FnMut(&[u16], &[crate::agree::Masks]))) -> Compared {
+fn collect(each: impl FnOnce(&mut dyn FnMut(&[u16], &[Masks]))) -> Compared {
+    collect_with(
+        |words, masks, ours, tally| compare(words, masks, ours, tally),
+        each,
+    )
+}
+
+/// The same, and the proved calls with wrong lengths.
+fn collect_with_lengths(each: impl FnOnce(&mut dyn FnMut(&[u16], &[Masks]))) -> Compared {
+    let both = |words: &[u16], masks: &[Masks], ours: &mut Ours, tally: &mut Tally| {
+        compare(words, masks, ours, tally)?;
+        wrong_lengths(words, ours)
+    };
+    collect_with(both, each)
+}
+
+fn collect_with(
+    mut one: impl FnMut(&[u16], &[Masks], &mut Ours, &mut Tally) -> Result<(), Difference>,
+    each: impl FnOnce(&mut dyn FnMut(&[u16], &[Masks])),
+) -> Compared {
     let mut tally = Tally::default();
+    let mut ours = Ours::new(Calls::ARCHIVE);
     let mut found = None;
     each(&mut |words, masks| {
         if found.is_none() {
-            found = compare(words, masks, &mut tally).err();
+            found = one(words, masks, &mut ours, &mut tally).err();
         }
     });
+    tally.ours = ours.made;
     found.map_or(Ok(tally), |difference| Err(Box::new(difference)))
 }
 
@@ -63,7 +85,7 @@ pub fn graphs(seed: u64, from: u64, to: u64) -> Compared {
 
 /// Damaged copies of small random graphs.
 pub fn damaged(seed: u64, from: u64, to: u64) -> Compared {
-    collect(|visit| {
+    collect_with_lengths(|visit| {
         for i in from..to {
             let mut rng = numbered(!seed, i);
             let whole = random::graph(&mut rng, SCALES[(i % 3) as usize]);
@@ -80,7 +102,7 @@ pub fn damaged(seed: u64, from: u64, to: u64) -> Compared {
 
 /// The limits: accepted edges and the largest graphs.
 pub fn limits(seed: u64) -> Compared {
-    collect(|visit| {
+    collect_with_lengths(|visit| {
         let mut rng = Rng::new(seed);
         let edges = edges::all().into_iter().map(|edge| edge.words);
         for words in edges.chain(edges::largest()) {

@@ -1,8 +1,9 @@
 //! The long comparison: `compare-long SEED COUNT`.
 //!
 //! Compares the limits, every tiny content and pattern, COUNT random graphs
-//! and a quarter as many damaged copies, and prints what it compared. It ends
-//! with 1 at the first difference.
+//! and a quarter as many damaged copies, in the original, in document 01's
+//! reading and through the archive, and prints what it compared. It ends with 1
+//! at the first difference.
 
 use std::collections::BTreeMap;
 use std::process::ExitCode;
