@@ -25,10 +25,7 @@ pub fn patterns(counts: [u16; 4]) -> Compared {
 
 /// What is visited, compared up to the first difference.
 fn collect(each: impl FnOnce(&mut dyn FnMut(&[u16], &[Masks]))) -> Compared {
-    collect_with(
-        |words, masks, ours, tally| compare(words, masks, ours, tally),
-        each,
-    )
+    collect_with(compare, each)
 }
 
 /// The same, and the proved calls with wrong lengths.

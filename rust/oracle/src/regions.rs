@@ -97,9 +97,13 @@ fn chains(nodes: &[Node]) -> (Vec<Chain>, Vec<Option<NonZeroUsize>>) {
     (chains, chain_of)
 }
 
-fn index(theory: &Theory) -> Result<Narrower, Stop> {
+/// `parents` and `atom_nodes`.
+fn node_rows(
+    theory: &Theory,
+    chains: &[Chain],
+    chain_of: &[Option<NonZeroUsize>],
+) -> Result<(Adjacency, Adjacency), Stop> {
     let nodes = theory.nodes();
-    let (chains, chain_of) = chains(nodes);
     let leaves_of =
         |node: usize| chain_of[node].map_or(&[][..], |link| &chains[chain_position(link)].leaves);
     let parents =
@@ -111,9 +115,31 @@ fn index(theory: &Theory) -> Result<Narrower, Stop> {
             Node::Atom(atom) => Some((*atom, node)),
             _ => None,
         });
+    Ok((
+        Adjacency::build(nodes.len(), parents)?,
+        Adjacency::build(theory.atom_count(), atom_nodes)?,
+    ))
+}
+
+/// `by_head` and `by_body`.
+fn producer_rows(theory: &Theory, rules: &[Producer]) -> Result<(Adjacency, Adjacency), Stop> {
+    let numbered = || rules.iter().enumerate();
+    let by_head =
+        numbered().flat_map(|(row, rule)| rule.heads.iter().map(move |&head| (head, row)));
+    let by_body = numbered().filter_map(|(row, rule)| rule.body.map(|body| (body, row)));
+    Ok((
+        Adjacency::build(theory.atom_count(), by_head)?,
+        Adjacency::build(theory.nodes().len(), by_body)?,
+    ))
+}
+
+fn index(theory: &Theory) -> Result<Narrower, Stop> {
+    let nodes = theory.nodes();
+    let (chains, chain_of) = chains(nodes);
+    let (parents, atom_nodes) = node_rows(theory, &chains, &chain_of)?;
     Ok(Narrower {
-        parents: Adjacency::build(nodes.len(), parents)?,
-        atom_nodes: Adjacency::build(theory.atom_count(), atom_nodes)?,
+        parents,
+        atom_nodes,
         absorbed: nodes
             .iter()
             .map(|node| matches!(node, Node::Absorbed))
@@ -129,13 +155,10 @@ fn producers(theory: &Theory, list: Vec<(Option<usize>, Vec<usize>)>) -> Result<
         .into_iter()
         .map(|(body, heads)| Producer { body, heads })
         .collect();
-    let numbered = || rules.iter().enumerate();
-    let by_head =
-        numbered().flat_map(|(row, rule)| rule.heads.iter().map(move |&head| (head, row)));
-    let by_body = numbered().filter_map(|(row, rule)| rule.body.map(|body| (body, row)));
+    let (by_head, by_body) = producer_rows(theory, &rules)?;
     Ok(Producers {
-        by_head: Adjacency::build(theory.atom_count(), by_head)?,
-        by_body: Adjacency::build(theory.nodes().len(), by_body)?,
+        by_head,
+        by_body,
         founded_cycles: OnceLock::new(),
         rules,
     })
@@ -177,6 +200,29 @@ pub struct Rows {
     pub by_body: Vec<Vec<usize>>,
 }
 
+/// A decoded graph: the theory and the list of its producers, no rows yet.
+#[derive(Clone)]
+pub struct Lists {
+    theory: Theory,
+    producers: Vec<(Option<usize>, Vec<usize>)>,
+}
+
+impl Lists {
+    /// # Panics
+    /// On words that the graph check refuses.
+    pub fn new(words: &[u16]) -> Self {
+        let Decoded {
+            atoms,
+            nodes,
+            producers,
+        } = decode(words);
+        Self {
+            theory: Theory::new(atoms, nodes),
+            producers,
+        }
+    }
+}
+
 /// The original's answers on one accepted graph.
 pub struct Oracle {
     theory: Theory,
@@ -191,12 +237,18 @@ impl Oracle {
     /// # Panics
     /// On words that the graph check refuses.
     pub fn new(words: &[u16]) -> Result<Self, Ended> {
-        let Decoded {
-            atoms,
-            nodes,
+        Self::build(Lists::new(words))
+    }
+
+    /// `index` and `producers` on a decoded graph.
+    ///
+    /// # Errors
+    /// As the row builder ends.
+    pub fn build(lists: Lists) -> Result<Self, Ended> {
+        let Lists {
+            theory,
             producers: list,
-        } = decode(words);
-        let theory = Theory::new(atoms, nodes);
+        } = lists;
         let index = index(&theory)?;
         let producers = producers(&theory, list)?;
         Ok(Self {
@@ -204,6 +256,20 @@ impl Oracle {
             index,
             producers,
         })
+    }
+
+    /// Build the four row tables anew and forget the loop test's answer: with
+    /// this and a fresh scratch nothing but the lists is left of earlier calls.
+    ///
+    /// # Errors
+    /// As the row builder ends.
+    pub fn rebuild_rows(&mut self) -> Result<(), Ended> {
+        let (index, producers) = (&mut self.index, &mut self.producers);
+        (index.parents, index.atom_nodes) =
+            node_rows(&self.theory, &index.chains, &index.chain_of)?;
+        (producers.by_head, producers.by_body) = producer_rows(&self.theory, &producers.rules)?;
+        producers.founded_cycles = OnceLock::new();
+        Ok(())
     }
 
     pub fn rows(&self) -> Rows {
