@@ -1,5 +1,6 @@
 // The words of a recording on standard input, 16 bits each, low byte first, read through a lent block.
 pub mod compare;
+pub mod outcome;
 pub mod scores;
 
 ghost use mathlib.Core.Path.{_≡_};

@@ -1,9 +1,9 @@
 // The calls and the program, each compared with what is recorded of it.
 ghost use Prim.Native.Nat.{_≤_};
 ghost use lib.ListN.{length};
-use super::outcome;
-use super::outcome::Compared;
 use recording::Reader;
+use recording::outcome;
+use recording::outcome::Compared;
 
 // The one number of a refusal, as the archive's calls have it.
 fn code(number: u16, place: u16) -> u32 {

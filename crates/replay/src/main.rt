@@ -1,12 +1,11 @@
 // Replays a recording of answers from standard input (README.md has its format) and prints how many of them agree.
 mod calls;
-mod outcome;
 
 ghost use mathlib.Core.Path.{_≡_};
 ghost use Prim.Native.Nat.{_<_};
 ghost use lib.ListN.{length};
-use outcome::Compared;
 use recording::Reader;
+use recording::outcome::Compared;
 use recording::scores;
 
 // Scores what was compared, unless the recording is malformed there.
@@ -150,11 +149,11 @@ fn work_room() -> [u16; 65536]
     [0; 65536]
 }
 
-// Room for the longest input.
-fn byte_room() -> [u8; 131072]
-    ensures { λ r. ⌜ 131072 ≡ length r ⌝ }
+// Room for the longest input, 70,054 bytes.
+fn byte_room() -> [u8; 72000]
+    ensures { λ r. ⌜ 72000 ≡ length r ⌝ }
 {
-    [0; 131072]
+    [0; 72000]
 }
 
 fn main() {

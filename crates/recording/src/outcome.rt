@@ -2,8 +2,8 @@
 ghost use mathlib.Core.Path.{_≡_};
 ghost use Prim.Native.Nat.{_≤_};
 ghost use lib.ListN.{length, replicate};
-use recording::Reader;
-use recording::compare;
+use super::Reader;
+use super::compare;
 
 const SOIL: u16 = 21845;
 
@@ -52,15 +52,15 @@ pub struct Lengths {
 pub fn read_lengths(block: &mut [u8; 65536], r: Reader, room: usize) -> Lengths
     ensures { λ l. ⌜ (l .output ≤ 32) × (l .work ≤ room) ⌝ }
 {
-    let output = recording::next(block, r);
-    let work = recording::next(block, output);
+    let output = super::next(block, r);
+    let work = super::next(block, output);
     let k = output.word as usize;
     let n = work.word as usize;
     if 32 < k || room < n {
         return Lengths {
             output: 0,
             work: 0,
-            reader: recording::wrong(work),
+            reader: super::wrong(work),
         };
     }
     Lengths {
@@ -78,7 +78,7 @@ pub struct Compared {
 // The recording's last word is none that can stand there.
 pub fn malformed(r: Reader) -> Compared {
     Compared {
-        reader: recording::wrong(r),
+        reader: super::wrong(r),
         same: false,
     }
 }
@@ -90,7 +90,7 @@ fn compare_output(
     output: &[u64],
     expected: &mut [u64],
 ) -> Compared {
-    let whole = recording::read_wide(block, r, expected);
+    let whole = super::read_wide(block, r, expected);
     Compared {
         reader: whole,
         same: compare::same_wide(output, expected),
@@ -107,7 +107,7 @@ fn compare_done(
 ) -> Compared
     requires { ⌜ length (now output) ≤ 32 ⌝ }
 {
-    let none = recording::expect(block, r, 0);
+    let none = super::expect(block, r, 0);
     let k = output.len();
     let mut room = wide_room();
     let words = compare_output(block, none, output, &mut room[..k]);
@@ -129,13 +129,13 @@ fn compare_refused(
 ) -> Compared
     requires { ⌜ length (now output) ≤ 32 ⌝ }
 {
-    let count = recording::next(block, number);
+    let count = super::next(block, number);
     let n = count.word as usize;
     if 1024 < n {
         return malformed(count);
     }
     let mut places = place_room();
-    let listed = recording::read(block, count, &mut places, n);
+    let listed = super::read(block, count, &mut places, n);
     let k = output.len();
     let before = wide_room();
     let same = answer / 65536 == number.word as u32
@@ -158,7 +158,7 @@ pub fn compare_outcome(
 ) -> Compared
     requires { ⌜ length (now output) ≤ 32 ⌝ }
 {
-    let number = recording::next(block, r);
+    let number = super::next(block, r);
     if number.word == 0 {
         return compare_done(block, number, answer, output, work);
     }
@@ -172,7 +172,7 @@ pub fn compare_bytes(
     written: &[u8],
     expected: &mut [u8],
 ) -> Compared {
-    let whole = recording::read_bytes(block, r, expected);
+    let whole = super::read_bytes(block, r, expected);
     Compared {
         reader: whole,
         same: compare::same_bytes(written, expected),

@@ -2,8 +2,8 @@ use mathlib.Core.Path.{sym}
 use native.Mathlib.Omega.{arith}
 use lib.Seq.{length-take-le}
 use borrow.Author.Needs.{needs}
-use Rattle.replay.proofs.outcome.compare_done.Statement.{statement}
-use Rattle.replay.proofs.outcome.compare_done.Tie as tie
+use Rattle.recording.proofs.outcome.compare_done.Statement.{statement}
+use Rattle.recording.proofs.outcome.compare_done.Tie as tie
 
 expect-requires : tie.Need-expect-requires
 expect-requires c κs = search needs

@@ -2,8 +2,8 @@ use mathlib.Core.Path.{sym}
 use native.Mathlib.Omega.{arith}
 use lib.Seq.{length-take-le}
 use borrow.Author.Needs.{needs}
-use Rattle.replay.proofs.outcome.compare_refused.Statement.{statement}
-use Rattle.replay.proofs.outcome.compare_refused.Tie as tie
+use Rattle.recording.proofs.outcome.compare_refused.Statement.{statement}
+use Rattle.recording.proofs.outcome.compare_refused.Tie as tie
 
 next-requires : tie.Need-next-requires
 next-requires c κs = search needs
