@@ -25,10 +25,10 @@ use Rattle.graph.specs.declared.Checked.the-variants.{Accepted, Edition, Counts
 use Rattle.graph.proofs.AcceptedLaws.{accepted}
 use Rattle.cycles.specs.Outcome.{loops, outcome}
 use Rattle.founded.specs.Answers.{absorbedRow, badLengths, completeAnswer}
-use Rattle.report.specs.Bytes.{words}
-use Rattle.report.specs.Text.{loopsLine, missingLine, refusedLine, Appended}
+use Rattle.input.specs.Bytes.{words}
+use Rattle.input.proofs.ByteLaws.{rest-all}
+use Rattle.text.specs.Text.{loopsLine, missingLine, refusedLine, Appended}
 use Rattle.report.specs.Report.{textBy, lines, atomMask, nodeMask, badMasks, answer, Printed, Split}
-use Rattle.report.proofs.ByteLaws.{rest-all}
 
 -- ---- the loop test
 

@@ -16,9 +16,10 @@ use Rattle.graph.specs.Kinds.{takesOperand}
 use Rattle.graph.specs.Answer.{refuseFirst, firstRefusal}
 use Rattle.graph.specs.Refusals.{badEdition, badCounts, badEntries, badOperand, badFirst, badRecord, badBody, badNext, badSize, graphRows, graphAnswer}
 use Rattle.founded.specs.Answers.{absorbedRow}
-use Rattle.report.specs.Bytes.{littleEndian, tabulate}
-use Rattle.report.specs.Text.{digitsIn, decimal, spaced}
-use Rattle.report.specs.Report.{graphSize, graphOf, masksOf, badMasks, answer, reportText}
+use Rattle.input.specs.Bytes.{littleEndian, tabulate}
+use Rattle.input.specs.Input.{graphSize, graphOf, masksOf}
+use Rattle.text.specs.Text.{digitsIn, decimal, spaced}
+use Rattle.report.specs.Report.{badMasks, answer, reportText}
 
 -- 16-bit words as bytes
 unfoldable pub inBytes : List ℕ → List ℕ

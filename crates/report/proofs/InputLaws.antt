@@ -1,14 +1,14 @@
--- The header sizes the graph. A graph past the largest one is refused by its header, and what stands past the longest exact input changes nothing.
-use mathlib.Core.Path.{_≡_, refl, sym, ap, _∙_}
+-- A graph past the largest one is refused by its header, and what stands past the longest exact input changes nothing.
+use mathlib.Core.Path.{_≡_, refl, ap, _∙_}
 use mathlib.Core.Logic.{_⊎_, inl, inr}
 use mathlib.Core.Bool.{Bool, true, false, _||_, cond}
 use mathlib.Core.List.{List}
-use Prim.Native.Nat.{ℕ, zero, suc, _+_, _-_, _*_, _/_, _≤_, _<_, min}
+use Prim.Native.Nat.{ℕ, _+_, _*_, _≤_, _<_, min}
 use native.Mathlib.Omega.{arith}
 use native.Mathlib.Decide.{decLe, decLt}
 use lib.Dec.{eqb, ltb}
-use lib.ListN.{length, getD, take, drop, length-take, length-drop, drop-of-length-le}
-use lib.Seq.{take-all, take-take, getD-take, length-take-le}
+use lib.ListN.{length, getD, take, drop}
+use lib.Seq.{take-all, length-take-le}
 use borrow.Author.Tests.{lt-ltb, le-ltb, ne-eqb, eqb-true, eqb-false}
 use Rattle.theory.specs.Sets.{Is}
 use Rattle.theory.specs.Accepted.{edition1, sizeOf}
@@ -16,51 +16,13 @@ use Rattle.theory.proofs.SetLaws.{bool-cases, or-left, or-right}
 use Rattle.mask.specs.Mask.{wordsOf}
 use Rattle.graph.specs.Answer.{Answer, accept, refuse, firstRefusal}
 use Rattle.graph.specs.Refusals.{badEdition, badCounts, graphRows, graphAnswer}
-use Rattle.report.specs.Bytes.{littleEndian, wordAt, words}
-use Rattle.report.specs.Report.{graphSize, graphOf, masksOf, badMasks, answer, textBy, reportText, ReportedOf, Reported}
-use Rattle.report.proofs.ByteLaws.{tabulate-length, tabulate-at}
+use Rattle.input.specs.Bytes.{words}
+use Rattle.input.specs.Input.{graphSize, graphOf, masksOf}
+use Rattle.input.proofs.HeaderLaws.{SameHeader, header-of, header-whole, take-least, drop-least, size-cut, graph-cut, header-cut, masks-length}
+use Rattle.report.specs.Report.{badMasks, answer, textBy, reportText, ReportedOf, Reported}
 use Rattle.report.proofs.CallLaws.{accepted-few, graph-accepts, answer-graph, answer-masks}
 
--- ---- words of a part
-
-little-take : (bytes : List ℕ) (n at k : ℕ) → at + k ≤ n → littleEndian (take n bytes) at k ≡ littleEndian bytes at k
-unfolding littleEndian
-little-take bytes n at zero h = refl
-little-take bytes n at (suc k) h = rw (getD-take n bytes at 0 (omega arith), little-take bytes n (suc at) k (omega arith))
-
--- as many bytes as the header has, and the header's words
-module _ (bytes : List ℕ) (n : ℕ) (long : 10 ≤ length bytes) (some : 10 ≤ n) where
-  part-long : 10 ≤ length (take n bytes)
-  part-long = rw length-take (omega arith)
-
-  part-word : (i : ℕ) → i < 5 → getD (words 2 (take n bytes)) i 0 ≡ getD (words 2 bytes) i 0
-  part-word i h =
-      tabulate-at (wordAt 2 (take n bytes)) (length (take n bytes) / 2) i (omega (arith, part-long))
-      ∙ little-take bytes n (2 * i) 2 (omega arith)
-      ∙ sym (tabulate-at (wordAt 2 bytes) (length bytes / 2) i (omega arith))
-
-words-long : (bytes : List ℕ) → 10 ≤ length bytes → 5 ≤ length (words 2 bytes)
-words-long bytes h = omega (arith, tabulate-length (wordAt 2 bytes) (length bytes / 2))
-
 -- ---- the header alone
-
-pub record SameHeader (g h : List ℕ) : Type 0 where
-  pub left-long : 5 ≤ length g
-  pub right-long : 5 ≤ length h
-  pub same : (i : ℕ) → i < 5 → getD g i 0 ≡ getD h i 0
-
-header-of : (bytes : List ℕ) (n : ℕ) → 10 ≤ length bytes → 10 ≤ n → SameHeader (words 2 (take n bytes)) (words 2 bytes)
-header-of bytes n h l = record {
-  left-long = words-long (take n bytes) (part-long bytes n h l);
-  right-long = words-long bytes h;
-  same = part-word bytes n h l;
-}
-
-header-then : {g h k : List ℕ} → SameHeader g h → SameHeader h k → SameHeader g k
-header-then s t = record { left-long = s .left-long; right-long = t .right-long; same = λ i l. s .same i l ∙ t .same i l }
-
-size-same : {g h : List ℕ} → SameHeader g h → sizeOf g ≡ sizeOf h
-size-same s = rw (s .same 2 (omega arith), s .same 3 (omega arith), s .same 4 (omega arith))
 
 edition-same : {g h : List ℕ} → SameHeader g h → badEdition edition1 g ≡ badEdition edition1 h
 unfolding badEdition
@@ -114,24 +76,6 @@ refused-same a x y both other ex ey h = rw (ex, ey, ne-eqb (a .number) 0 (λ z. 
 
 -- ---- as many bytes as the program decodes
 
-take-least : (l : List ℕ) (n : ℕ) → take (min (length l) n) l ≡ take n l
-take-least l n = go (decLe (length l) n)
-  where
-    go : Dec (length l ≤ n) → take (min (length l) n) l ≡ take n l
-    go (yes h) = let e : min (length l) n ≡ length l = omega arith in rw e (take-all (length l) l (omega arith) ∙ sym (take-all n l h))
-    go (no h) = let e : min (length l) n ≡ n = omega arith in rw e
-
-drop-least : (l : List ℕ) (n : ℕ) → drop (min (length l) n) l ≡ drop n l
-drop-least l n = go (decLe (length l) n)
-  where
-    go : Dec (length l ≤ n) → drop (min (length l) n) l ≡ drop n l
-    go (yes h) = let e : min (length l) n ≡ length l = omega arith in rw e (drop-of-length-le l {i = length l} (omega arith) ∙ sym (drop-of-length-le l h))
-    go (no h) = let e : min (length l) n ≡ n = omega arith in rw e
-
-header-whole : (input : List ℕ) → 10 ≤ length input → SameHeader (graphOf input) (words 2 input)
-unfolding graphOf graphSize
-header-whole input long = header-of input (graphSize input) long (omega arith)
-
 size-large : (input : List ℕ) → 26634 < graphSize input → badCounts edition1 (words 2 input) ≡ true
 unfolding graphSize
 size-large input h = counts-large (words 2 input) (omega arith)
@@ -178,25 +122,6 @@ long-masks g m k p both other hm hk = go (bool-cases (eqb (graphAnswer edition1 
     go (inr f) =
         let n = eqb-false (graphAnswer edition1 g .number) 0 f in
         refused-same (graphAnswer edition1 g) _ _ both other (answer-graph g m p _ refl n) (answer-graph g k p _ refl n) (omega arith)
-
--- the header of an input that is cut off after it
-module _ (input : List ℕ) (cap : ℕ) (long : 10 ≤ length input) (some : 10 ≤ cap) where
-  size-cut : graphSize (take cap input) ≡ graphSize input
-  unfolding graphSize
-  size-cut = rw (size-same (header-of input cap long some))
-
-  graph-cut : graphSize input ≤ cap → graphOf (take cap input) ≡ graphOf input
-  unfolding graphOf
-  graph-cut h = rw (size-cut, take-take (graphSize input) cap input h)
-
-  header-cut : SameHeader (graphOf (take cap input)) (words 2 input)
-  unfolding graphOf graphSize
-  header-cut =
-      header-then (header-of (take cap input) (graphSize (take cap input)) (part-long input cap long some) (omega arith)) (header-of input cap long some)
-
-masks-length : (input : List ℕ) → length (masksOf input) ≡ length input - graphSize input
-unfolding masksOf
-masks-length input = length-drop (graphSize input) input
 
 -- the longest input that is not refused for its length has 26,890 bytes
 pub enough : (input : List ℕ) (cap p : ℕ) → 26891 ≤ cap → reportText (take cap input) p ≡ reportText input p

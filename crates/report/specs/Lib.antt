@@ -1,3 +1,1 @@
-pub mod Bytes
-pub mod Text
 pub mod Report

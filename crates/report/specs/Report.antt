@@ -8,27 +8,16 @@ use lib.ListN.{length, getD, take, drop}
 use Rattle.theory.specs.Sets.{Mem, members}
 use Rattle.theory.specs.Theory.{Theory}
 use Rattle.theory.specs.Words.{theoryOf, bitAt}
-use Rattle.theory.specs.Accepted.{edition1, sizeOf}
+use Rattle.theory.specs.Accepted.{edition1}
 use Rattle.theory.specs.Founded.{hasCycle, missing}
 use Rattle.theory.specs.Cases.{absorbedIn}
 use Rattle.mask.specs.Mask.{wordsOf}
 use Rattle.graph.specs.Answer.{Answer, accept, refuseIf, firstRefusal}
 use Rattle.graph.specs.Refusals.{graphAnswer}
 use Rattle.founded.specs.Answers.{absorbedRow}
-use Rattle.report.specs.Bytes.{words}
-use Rattle.report.specs.Text.{loopsLine, missingLine, refusedLine}
-
--- how many bytes the graph has: the five words of the header size it
-unfoldable pub graphSize : List ℕ → ℕ
-graphSize input = 2 * sizeOf (words 2 input)
-
--- the graph's words: of all bytes if they are too few, an odd last byte dropped
-unfoldable pub graphOf : List ℕ → List ℕ
-graphOf input = words 2 (take (graphSize input) input)
-
--- the bytes after the graph: both masks
-unfoldable pub masksOf : List ℕ → List ℕ
-masksOf input = drop (graphSize input) input
+use Rattle.input.specs.Bytes.{words}
+use Rattle.input.specs.Input.{graphOf, masksOf}
+use Rattle.text.specs.Text.{loopsLine, missingLine, refusedLine}
 
 -- two lines: the loop test's answer and the missing list
 abbrev pub lines : (graph never atomNever : List ℕ) → List ℕ

@@ -1,8 +1,4 @@
 // The program's text: from standard input's bytes to the bytes that are written (document 01, "The program").
-mod decode;
-mod numbers;
-mod text;
-
 ghost use mathlib.Core.Path.{_≡_};
 ghost use mathlib.Core.Bool.{false};
 ghost use Prim.Native.Nat.{_≤_};
@@ -76,8 +72,8 @@ fn report_masks(graph: &[u16], masks: &[u8], out: &mut [u8]) -> usize
     let mut atom_never = [0u64; 16];
     let mut never = [0u64; 16];
     let from = atom_bytes(graph, masks);
-    let atoms = decode::mask_words(&masks[..from], &mut atom_never);
-    let nodes = decode::mask_words(&masks[from..], &mut never);
+    let atoms = input::mask_words(&masks[..from], &mut atom_never);
+    let nodes = input::mask_words(&masks[from..], &mut never);
     report_words(graph, &never[..nodes], &atom_never[..atoms], out)
 }
 
@@ -110,8 +106,8 @@ fn report_input(input: &[u8], out: &mut [u8]) -> usize
     ensures { λ r. ⌜ Reported (now (input .entry)) (now (out .exit)) r ⌝ }
 {
     let mut graph = [0u16; 13317];
-    let bytes = decode::graph_bytes(input);
-    let words = decode::graph_words(&input[..bytes], &mut graph);
+    let bytes = input::graph_bytes(input);
+    let words = input::graph_words(&input[..bytes], &mut graph);
     report_graph(&graph[..words], &input[bytes..], out)
 }
 

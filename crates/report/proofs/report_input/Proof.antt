@@ -2,8 +2,7 @@ use mathlib.Core.Path.{sym}
 use native.Mathlib.Omega.{arith}
 use lib.Seq.{length-take-le}
 use denote.Ref.{now}
-use Rattle.report.specs.Report.{graphSize}
-use Rattle.report.proofs.ByteLaws.{rest-all}
+use Rattle.input.proofs.ByteLaws.{rest-all}
 use Rattle.report.proofs.InputLaws.{report-whole}
 use borrow.Author.Needs.{needs}
 use Rattle.report.proofs.report_input.Statement.{statement}
@@ -49,7 +48,6 @@ same-length : tie.Need-same-length
 same-length c = search needs
 
 returns : tie.Need-returns
-unfolding graphSize
 returns c =
     let c-report-graph = c .before .before .report-graph in
     let p1 = c .before .before .before .before .before .before .before in
