@@ -24,11 +24,12 @@ use Rattle.graph.specs.declared.Checked.{Checked}
 use Rattle.graph.specs.declared.Checked.the-variants.{Accepted, Edition, Counts, Size, Node, Producer, Link, Leaf, Head, Entries}
 use Rattle.graph.proofs.AcceptedLaws.{accepted}
 use Rattle.cycles.specs.Outcome.{loops, outcome}
-use Rattle.founded.specs.Answers.{absorbedRow, badLengths, completeAnswer}
+use Rattle.founded.specs.Answers.{absorbedRow, badLengths, completeAnswer, completedOf, Completes}
+use Rattle.founded.specs.declared.Completed.{Completed}
 use Rattle.input.specs.Bytes.{words}
 use Rattle.input.proofs.ByteLaws.{rest-all}
 use Rattle.text.specs.Text.{loopsLine, missingLine, refusedLine, Appended}
-use Rattle.report.specs.Report.{textBy, lines, atomMask, nodeMask, badMasks, answer, Printed, Split}
+use Rattle.report.specs.Report.{textBy, lines, atomMask, nodeMask, badMasks, answer, Printed, Split, Ready}
 
 -- ---- the loop test
 
@@ -56,13 +57,17 @@ absorbed-last th p = go (filled (absorbedIn th))
     go true = refl
     go false = refl
 
-pub complete-row : (graph : List ℕ) {x : Answer} (n a o w p : ℕ) → x ≡ completeAnswer graph n a o w p → graphAnswer edition1 graph ≡ accept → n ≡ wordsOf (getD graph 2 0) → a ≡ wordsOf (getD graph 1 0) → o ≡ wordsOf (getD graph 1 0)
-    → w ≡ 32768 → x ≡ absorbedRow (theoryOf graph) p
+-- nothing but row 12 is left for the pass to refuse
+pub pass-row : {graph never atomNever out output work output′ work′ : List ℕ} {r : Completed} → Ready graph never atomNever out
+    → length output ≡ wordsOf (getD graph 1 0) → length work ≡ 32768 → Completes graph never atomNever output work output′ work′ r
+    → absorbedRow (theoryOf graph) (completedOf r .place) ≡ completedOf r
 unfolding completeAnswer graphAnswer badLengths firstRefusal
-complete-row graph n a o w p q e hn ha ho hw =
-    q
-    ∙ rows-next (graphRows edition1 graph) _ e
-    ∙ rw (eq-eqb n _ hn, eq-eqb a _ ha, eq-eqb o _ ho, eq-eqb w _ hw) (absorbed-last (theoryOf graph) p)
+pass-row {graph = graph} {never = never} {atomNever = atomNever} {output = output} {work = work} {r = r} ready ho hw done =
+    let rest = rows-next (graphRows edition1 graph) _ (ready .accepted) in
+    sym (done .answer
+    ∙ rest
+    ∙ rw (eq-eqb (length never) _ (ready .node-words), eq-eqb (length atomNever) _ (ready .atom-words), eq-eqb (length output) _ ho, eq-eqb (length work) _ hw)
+    (absorbed-last (theoryOf graph) (completedOf r .place)))
 
 -- rows 1 to 10 accept, and so the answer is row 12's
 pub answer-row : (graph masks : List ℕ) (p : ℕ) → graphAnswer edition1 graph ≡ accept → badMasks graph masks ≡ false → answer graph masks p ≡ absorbedRow (theoryOf graph) p
