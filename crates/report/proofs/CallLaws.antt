@@ -23,7 +23,8 @@ use Rattle.graph.specs.Refusals.{graphRows, graphAnswer, answerOf}
 use Rattle.graph.specs.declared.Checked.{Checked}
 use Rattle.graph.specs.declared.Checked.the-variants.{Accepted, Edition, Counts, Size, Node, Producer, Link, Leaf, Head, Entries}
 use Rattle.graph.proofs.AcceptedLaws.{accepted}
-use Rattle.cycles.specs.Outcome.{loops, outcome}
+use Rattle.cycles.specs.Outcome.{Outcome, loops, refused, outcome, outcomeOf}
+use Rattle.cycles.specs.declared.Need.{Need}
 use Rattle.founded.specs.Answers.{absorbedRow, badLengths, completeAnswer, completedOf, Completes}
 use Rattle.founded.specs.declared.Completed.{Completed}
 use Rattle.input.specs.Bytes.{words}
@@ -33,8 +34,15 @@ use Rattle.report.specs.Report.{textBy, lines, atomMask, nodeMask, badMa
 
 -- ---- the loop test
 
-pub needed-loops : (graph work : List ℕ) → graphAnswer edition1 graph ≡ accept → length work ≡ 32768 → outcome graph work ≡ loops (hasCycle (theoryOf graph))
-needed-loops graph work e h = rw (e, eq-eqb (length work) 32768 h)
+abbrev pub replyOf : Outcome → Bool
+replyOf (loops b) = b
+replyOf (refused a) = false
+
+pub loops-reply : (graph work : List ℕ) {r said : Need} → graphAnswer edition1 graph ≡ accept → length work ≡ 32768 → outcomeOf r ≡ outcome graph work → r ≡ said
+    → replyOf (outcomeOf said) ≡ hasCycle (theoryOf graph)
+loops-reply graph work e h tests told =
+    let accepted-graph : outcome graph work ≡ loops (hasCycle (theoryOf graph)) = rw (e, eq-eqb (length work) 32768 h) in
+    ap (λ (x : Need). replyOf (outcomeOf x)) (sym told) ∙ ap replyOf (tests ∙ accepted-graph)
 
 -- ---- the pass
 

@@ -101,9 +101,9 @@ pub append-number : {old mid new : List ℕ} {at m r : ℕ} (word l : List ℕ) 
 append-number word l n p q =
     rw (spaced-append, spaced-only, ← append-assoc word (spaced l) (32 ∷ decimal n)) (append-then p q)
 
-pub append-word : {old mid word : List ℕ} {at m : ℕ} → Appended old at word mid m → Appended old at (word ++ spaced []) mid m
+pub append-word : {old mid : List ℕ} {at m : ℕ} (word : List ℕ) → Appended old at word mid m → Appended old at (word ++ spaced []) mid m
 unfolding spaced
-append-word {word = word} p = rw (append-nil word) p
+append-word word p = rw (append-nil word) p
 
 pub append-line : {old mid new : List ℕ} {at m r : ℕ} (word l : List ℕ) → Appended old at (word ++ spaced l) mid m → Appended mid m (10 ∷ []) new r → Appended old at (line word l) new r
 append-line word l p q = append-then p q

@@ -1,3 +1,9 @@
+use mathlib.Core.Path.{_≡_}
+use Prim.Native.Nat.{_+_, _*_}
+use native.Mathlib.Omega.{arith}
+use denote.Ref.{now}
+use Rattle.theory.specs.Accepted.{sizeOf}
+use Rattle.input.specs.Bytes.{words}
 use Rattle.input.specs.Input.{graphSize}
 use borrow.Author.Needs.{needs}
 use Rattle.input.proofs.graph_bytes.Statement.{statement}
@@ -45,7 +51,17 @@ least-requires-2 c κs = search needs
 
 returns-2 : tie.Need-returns-2
 unfolding graphSize
-returns-2 c = search needs
+returns-2 c =
+    let c-least2 = c .least2 in
+    let c-least = c .before .least in
+    let c-word3 = c .before .before .word3 in
+    let c-word2 = c .before .before .before .word2 in
+    let p1 = c .before .before .before .before in
+    let c-word = p1 .word in
+    let c-args = p1 .before .before .before .args in
+    let size : 5 + 3 * c-word .result + 2 * c-word2 .result + 2 * c-word3 .result ≡ sizeOf (words 2 (now (c-args .input))) =
+    rw (c-word .ensures .0, c-word2 .ensures .0, c-word3 .ensures .0) in
+    omega (arith, c-least2 .ensures, c-least .ensures, size)
 
 pub graph-bytes-spec : {M : Type 1} → statement M
 graph-bytes-spec =

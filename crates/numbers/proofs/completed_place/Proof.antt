@@ -1,3 +1,6 @@
+use mathlib.Core.Path.{_≡_, sym, ap}
+use Rattle.founded.specs.Answers.{completedOf}
+use Rattle.founded.specs.declared.Completed.{Completed}
 use borrow.Author.Needs.{needs}
 use Rattle.numbers.proofs.completed_place.Statement.{statement}
 use Rattle.numbers.proofs.completed_place.Tie as tie
@@ -36,7 +39,10 @@ returns-4 : tie.Need-returns-4
 returns-4 c = search needs
 
 returns-5 : tie.Need-returns-5
-returns-5 c = search needs
+returns-5 c =
+    let n = c .before .c2 .given .0 .0 in
+    let place : n ≡ completedOf (c .before .before .before .args .c) .place = ap (λ (x : Completed). completedOf x .place) (sym (c .before .c2 .given .1)) in
+    (place, search needs)
 
 pub completed-place-spec : {M : Type 1} → statement M
 completed-place-spec =

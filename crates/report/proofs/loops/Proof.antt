@@ -1,7 +1,5 @@
-use mathlib.Core.Path.{ap}
 use denote.Ref.{now}
-use Rattle.cycles.specs.Outcome.{outcomeOf}
-use Rattle.report.proofs.CallLaws.{needed-loops}
+use Rattle.report.proofs.CallLaws.{loops-reply}
 use borrow.Author.Needs.{needs}
 use Rattle.report.proofs.loops.Statement.{statement}
 use Rattle.report.proofs.loops.Tie as tie
@@ -32,7 +30,7 @@ returns c =
     let p2 = p1 .before .before .before .before in
     let c-args = p2 .args in
     let c-pre = p2 .pre in
-    cc (ap outcomeOf (c-enum-told .given .1), c-needed .ensures .0, needed-loops (now (c-args .graph)) (now (c-args .work)) (c-pre .0) (c-pre .1))
+    loops-reply (now (c-args .graph)) (now (c-args .work)) (c-pre .0) (c-pre .1) (c-needed .ensures .0) (c-enum-told .given .1)
 
 same-length-2 : tie.Need-same-length-2
 same-length-2 c = search needs
@@ -45,7 +43,7 @@ returns-2 c =
     let p2 = p1 .before .before .before .before in
     let c-args = p2 .args in
     let c-pre = p2 .pre in
-    cc (ap outcomeOf (c-enum-told2 .given .1), c-needed .ensures .0, needed-loops (now (c-args .graph)) (now (c-args .work)) (c-pre .0) (c-pre .1))
+    loops-reply (now (c-args .graph)) (now (c-args .work)) (c-pre .0) (c-pre .1) (c-needed .ensures .0) (c-enum-told2 .given .1)
 
 same-length-3 : tie.Need-same-length-3
 same-length-3 c = search needs
@@ -58,7 +56,7 @@ returns-3 c =
     let p2 = p1 .before .before .before .before in
     let c-args = p2 .args in
     let c-pre = p2 .pre in
-    cc (ap outcomeOf (c-enum-told3 .given .1), c-needed .ensures .0, needed-loops (now (c-args .graph)) (now (c-args .work)) (c-pre .0) (c-pre .1))
+    loops-reply (now (c-args .graph)) (now (c-args .work)) (c-pre .0) (c-pre .1) (c-needed .ensures .0) (c-enum-told3 .given .1)
 
 same-length-4 : tie.Need-same-length-4
 same-length-4 c = search needs
@@ -71,7 +69,7 @@ returns-4 c =
     let p2 = p1 .before .before .before .before in
     let c-args = p2 .args in
     let c-pre = p2 .pre in
-    cc (ap outcomeOf (c-enum-told4 .given .1), c-needed .ensures .0, needed-loops (now (c-args .graph)) (now (c-args .work)) (c-pre .0) (c-pre .1))
+    loops-reply (now (c-args .graph)) (now (c-args .work)) (c-pre .0) (c-pre .1) (c-needed .ensures .0) (c-enum-told4 .given .1)
 
 pub loops-spec : {M : Type 1} → statement M
 loops-spec =

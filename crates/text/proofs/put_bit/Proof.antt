@@ -1,5 +1,7 @@
-use mathlib.Core.Path.{sym, _∙_}
+use mathlib.Core.Path.{_≡_, sym, _∙_}
+use mathlib.Core.Bool.{true, false}
 use denote.Ref.{now}
+use Rattle.theory.specs.Words.{bitAt}
 use Rattle.text.proofs.TextLaws.{spaced-none, spaced-only, append-none}
 use borrow.Author.Needs.{needs}
 use Rattle.text.proofs.put_bit.Statement.{statement}
@@ -22,7 +24,8 @@ returns c =
     let c-bit = p1 .before .bit in
     let p2 = p1 .before .before .before .before in
     let c-args = p2 .args in
-    rw (sym (c-bit .ensures) ∙ c-if1 .taken, spaced-only (c-args .i)) (c-put-spaced .ensures)
+    let set : bitAt (now (c-args .mask)) (c-args .i) ≡ true = sym (c-bit .ensures) ∙ c-if1 .taken in
+    rw (set, spaced-only (c-args .i)) (c-put-spaced .ensures)
 
 returns-2 : tie.Need-returns-2
 returns-2 c =
@@ -30,7 +33,8 @@ returns-2 c =
     let c-bit = c .before .bit in
     let p1 = c .before .before .before .before in
     let c-args = p1 .args in
-    rw (sym (c-bit .ensures) ∙ c-if1 .left, spaced-none) (append-none (now (c-args .out)) (c-args .at))
+    let unset : bitAt (now (c-args .mask)) (c-args .i) ≡ false = sym (c-bit .ensures) ∙ c-if1 .left in
+    rw (unset, spaced-none) (append-none (now (c-args .out)) (c-args .at))
 
 pub put-bit-spec : {M : Type 1} → statement M
 put-bit-spec = tie.close (tie.spec bit-requires put-spaced-requires same-length returns returns-2)

@@ -62,7 +62,7 @@ returns c =
     let c-put-text = p3 .put-text in
     let p4 = p3 .before .before .before .before in
     let c-args = p4 .args in
-    append-line refusedWord (c-args .number ∷ c-args .place ∷ []) (append-number refusedWord (c-args .number ∷ []) (c-args .place) (append-number refusedWord [] (c-args .number) (append-word (c-put-text .ensures)) (c-put-spaced .ensures)) (c-put-spaced2 .ensures)) (c-put .ensures)
+    append-line refusedWord (c-args .number ∷ c-args .place ∷ []) (append-number refusedWord (c-args .number ∷ []) (c-args .place) (append-number refusedWord [] (c-args .number) (append-word refusedWord (c-put-text .ensures)) (c-put-spaced .ensures)) (c-put-spaced2 .ensures)) (c-put .ensures)
 
 pub put-refusal-spec : {M : Type 1} → statement M
 put-refusal-spec =
