@@ -3,7 +3,7 @@ use native.Mathlib.Omega.{arith}
 use denote.Ref.{now}
 use borrow.Author.Tests.{eq-eqb}
 use Rattle.graph.specs.Answer.{Answer}
-use Rattle.founded.specs.Answers.{completedOf}
+use Rattle.founded.specs.Answers.{completedOf, Completes}
 use Rattle.report.proofs.CallLaws.{pass-row, accepted-few, print-refusal, print-both, lines-same}
 use borrow.Author.Needs.{needs}
 use Rattle.report.proofs.report_pass.Statement.{statement}
@@ -48,8 +48,9 @@ returns c =
     let c-args = p4 .args in
     let c-pre = p4 .pre in
     let a = completedOf (c-complete .result) in
-    let row = pass-row (c-pre .0) (c-pre .1 .0) (c-loops .kept .1 .0 ∙ c-pre .1 .1) (c-complete .ensures) in
-    print-refusal a (a .place) row (c-completed-number .ensures .0) (c-completed-place .ensures .0) (c-if1 .taken) (c-complete .ensures .absorbed) (c-put-refusal .ensures)
+    let done : Completes (now (c-args .graph)) (now (c-args .never)) (now (c-args .atom-never)) _ _ _ _ (c-complete .result) = c-complete .ensures in
+    let row = pass-row (c-pre .0) (c-pre .1 .0) (c-loops .kept .1 .0 ∙ c-pre .1 .1) done in
+    print-refusal a (a .place) row (c-completed-number .ensures .0) (c-completed-place .ensures .0) (c-if1 .taken) (done .absorbed) (c-put-refusal .ensures)
 
 atoms-requires : tie.Need-atoms-requires
 atoms-requires c κs =
@@ -90,10 +91,11 @@ returns-2 c =
     let c-args = p4 .args in
     let c-pre = p4 .pre in
     let a = completedOf (c-complete .result) in
-    let row = pass-row (c-pre .0) (c-pre .1 .0) (c-loops .kept .1 .0 ∙ c-pre .1 .1) (c-complete .ensures) in
+    let done : Completes (now (c-args .graph)) (now (c-args .never)) (now (c-args .atom-never)) _ _ _ _ (c-complete .result) = c-complete .ensures in
+    let row = pass-row (c-pre .0) (c-pre .1 .0) (c-loops .kept .1 .0 ∙ c-pre .1 .1) done in
     let none : a .number ≡ 0 = sym (c-completed-number .ensures .0) ∙ c-if1 .left in
     print-both (a .place) (ap (λ (x : Answer). x .number) row ∙ none)
-    (lines-same (now (c-args .graph)) (now (c-args .never)) (now (c-args .atom-never)) (c-complete .last .1 .1 .1 .0) (c-loops .result) (c-atoms .result) (c-loops .ensures) (c-atoms .ensures) (rw (eq-eqb (a .number) 0 none) at (c-complete .ensures .output-after)))
+    (lines-same (now (c-args .graph)) (now (c-args .never)) (now (c-args .atom-never)) (c-complete .last .1 .1 .1 .0) (c-loops .result) (c-atoms .result) (c-loops .ensures) (c-atoms .ensures) (rw (eq-eqb (a .number) 0 none) at (done .output-after)))
     (c-put-lines .ensures)
 
 pub report-pass-spec : {M : Type 1} → statement M

@@ -1,7 +1,8 @@
 use mathlib.Core.List.{[], _∷_}
 use Prim.Native.Nat.{_<_}
 use native.Mathlib.Omega.{arith}
-use Rattle.text.specs.Text.{refusedWord}
+use denote.Ref.{now}
+use Rattle.text.specs.Text.{refusedWord, Appended}
 use Rattle.text.proofs.TextLaws.{decimal-five, append-word, append-number, append-line}
 use borrow.Author.Needs.{needs}
 use Rattle.text.proofs.put_refusal.Statement.{statement}
@@ -62,7 +63,8 @@ returns c =
     let c-put-text = p3 .put-text in
     let p4 = p3 .before .before .before .before in
     let c-args = p4 .args in
-    append-line refusedWord (c-args .number ∷ c-args .place ∷ []) (append-number refusedWord (c-args .number ∷ []) (c-args .place) (append-number refusedWord [] (c-args .number) (append-word refusedWord (c-put-text .ensures)) (c-put-spaced .ensures)) (c-put-spaced2 .ensures)) (c-put .ensures)
+    let word : Appended (now (c-args .out)) 0 refusedWord _ (c-put-text .result) = c-put-text .ensures in
+    append-line refusedWord (c-args .number ∷ c-args .place ∷ []) (append-number refusedWord (c-args .number ∷ []) (c-args .place) (append-number refusedWord [] (c-args .number) (append-word refusedWord word) (c-put-spaced .ensures)) (c-put-spaced2 .ensures)) (c-put .ensures)
 
 pub put-refusal-spec : {M : Type 1} → statement M
 put-refusal-spec =
