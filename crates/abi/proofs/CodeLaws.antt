@@ -1,4 +1,4 @@
--- The loop test's number: it tells the outcome, and on success it is 1 exactly if there is a closed walk.
+-- A code that is made of an answer's number and place tells the answer (`told`). The loop test's number (`needed-told`): it tells the outcome, and on success it is 1 exactly if there is a closed walk.
 use mathlib.Core.Path.{_≡_, refl, sym, _∙_}
 use mathlib.Core.Logic.{_↔_}
 use mathlib.Core.Bool.{Bool, true, false, cond, true≢false}
@@ -8,8 +8,12 @@ use native.Mathlib.Omega.{arith}
 use borrow.Author.Tests.{eq-eqb}
 use Rattle.theory.specs.Words.{theoryOf}
 use Rattle.theory.specs.Founded.{hasCycle}
+use Rattle.graph.specs.Answer.{Answer, refuse}
 use Rattle.cycles.specs.Outcome.{Outcome, loops, refusal, outcome, workAfter, ClosedWalk}
-use Rattle.abi.specs.Codes.{NeedTells, Needed}
+use Rattle.abi.specs.Codes.{Tells, NeedTells, Needed}
+
+pub told : {a : Answer} {n p r : ℕ} → n ≡ a .number → p ≡ a .place → Tells (refuse n p) r → Tells a r
+told e q t = rw (e, q) at t
 
 said-1 : (b : Bool) {r : ℕ} → r ≡ cond b 1 0 → (r ≡ 1) ↔ (b ≡ true)
 said-1 true e = (λ _. refl, λ _. e)

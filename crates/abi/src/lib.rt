@@ -1,5 +1,5 @@
 // The four calls for C and Rust to link: numbers and slices alone. A slice crosses as a pointer and a length.
-ghost use Prim.Native.Nat.{_≤_};
+ghost use Prim.Native.Nat.{_<_};
 ghost use Rattle.theory.specs.Accepted.{edition1};
 ghost use Rattle.graph.specs.Answer.{refuse};
 ghost use Rattle.graph.specs.Refusals.{graphAnswer, answerOf};
@@ -12,28 +12,17 @@ use founded::Prepared;
 use graph::Checked;
 
 // A refusal's code.
-fn code(number: u32, place: u16) -> u32
-    requires { ⌜ number ≤ 12 ⌝ }
+fn code(number: usize, place: usize) -> u32
+    requires { ⌜ (number < 65536) × (place < 65536) ⌝ }
     ensures { λ r. ⌜ Tells (refuse number place) r ⌝ }
 {
-    number * 65536 + (place as u32)
+    (number * 65536 + place) as u32
 }
 
 fn checked_code(c: Checked) -> u32
     ensures { λ r. ⌜ Tells (answerOf c) r ⌝ }
 {
-    match c {
-        Checked::Accepted => 0,
-        Checked::Edition => code(1, 0),
-        Checked::Counts => code(2, 0),
-        Checked::Size => code(3, 0),
-        Checked::Node(n) => code(4, n),
-        Checked::Producer(p) => code(5, p),
-        Checked::Link(l) => code(6, l),
-        Checked::Leaf(n) => code(7, n),
-        Checked::Head(p) => code(8, p),
-        Checked::Entries => code(9, 0),
-    }
+    code(numbers::checked_number(c), numbers::checked_place(c))
 }
 
 fn needed_code(n: Need) -> u32
@@ -55,20 +44,14 @@ fn prepared_code(p: Prepared) -> u32
         Prepared::Refused(c) => checked_code(c),
         Prepared::Output => code(10, 0),
         Prepared::Work => code(11, 0),
-        Prepared::Absorbed(n) => code(12, n),
+        Prepared::Absorbed(n) => code(12, n as usize),
     }
 }
 
 fn completed_code(c: Completed) -> u32
     ensures { λ r. ⌜ Tells (completedOf c) r ⌝ }
 {
-    match c {
-        Completed::Done => 0,
-        Completed::Refused(checked) => checked_code(checked),
-        Completed::Lengths => code(10, 0),
-        Completed::Work => code(11, 0),
-        Completed::Absorbed(n) => code(12, n),
-    }
+    code(numbers::completed_number(c), numbers::completed_place(c))
 }
 
 // The graph check.

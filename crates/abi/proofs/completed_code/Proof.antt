@@ -1,66 +1,22 @@
-use mathlib.Core.Path.{refl}
-use native.Mathlib.Omega.{arith}
+use Rattle.abi.proofs.CodeLaws.{told}
 use borrow.Author.Needs.{needs}
 use Rattle.abi.proofs.completed_code.Statement.{statement}
 use Rattle.abi.proofs.completed_code.Tie as tie
 
-enum-told : tie.Need-enum-told
-enum-told c = search needs
+completed-number-requires : tie.Need-completed-number-requires
+completed-number-requires c κs = search needs
 
-enum-known-c : tie.Need-enum-known-c
-enum-known-c c = search needs
-
-checked-code-requires : tie.Need-checked-code-requires
-checked-code-requires c κs = search needs
-
-enum-told-2 : tie.Need-enum-told-2
-enum-told-2 c = search needs
+completed-place-requires : tie.Need-completed-place-requires
+completed-place-requires c κs = search needs
 
 code-requires : tie.Need-code-requires
 code-requires c κs = search needs
 
-enum-told-3 : tie.Need-enum-told-3
-enum-told-3 c = search needs
-
-code-requires-2 : tie.Need-code-requires-2
-code-requires-2 c κs = search needs
-
-enum-known-c-2 : tie.Need-enum-known-c-2
-enum-known-c-2 c = search needs
-
-code-requires-3 : tie.Need-code-requires-3
-code-requires-3 c κs = search needs
-
 returns : tie.Need-returns
-returns c = rw (c .enum-told .given .1) (refl, omega arith)
-
-returns-2 : tie.Need-returns-2
-returns-2 c = rw (c .before .before .c .given .1) (c .checked-code .ensures)
-
-returns-3 : tie.Need-returns-3
-returns-3 c = rw (c .before .enum-told2 .given .1) (c .code .ensures)
-
-returns-4 : tie.Need-returns-4
-returns-4 c = rw (c .before .enum-told3 .given .1) (c .code2 .ensures)
-
-returns-5 : tie.Need-returns-5
-returns-5 c = rw (c .before .before .c2 .given .1) (c .code3 .ensures)
+returns c =
+    let c-place = c .before .completed-place in
+    let c-number = c .before .before .completed-number in
+    told (c-number .ensures .0) (c-place .ensures .0) (c .code .ensures)
 
 pub completed-code-spec : {M : Type 1} → statement M
-completed-code-spec =
-    tie.close
-    (tie.spec
-    enum-told
-    enum-known-c
-    checked-code-requires
-    enum-told-2
-    code-requires
-    enum-told-3
-    code-requires-2
-    enum-known-c-2
-    code-requires-3
-    returns
-    returns-2
-    returns-3
-    returns-4
-    returns-5)
+completed-code-spec = tie.close (tie.spec completed-number-requires completed-place-requires code-requires returns)

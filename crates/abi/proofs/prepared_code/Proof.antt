@@ -28,6 +28,9 @@ code-requires-2 c κs = search needs
 enum-known-p-2 : tie.Need-enum-known-p-2
 enum-known-p-2 c = search needs
 
+cast-code : tie.Need-cast-code
+cast-code c = search needs
+
 code-requires-3 : tie.Need-code-requires-3
 code-requires-3 c κs = search needs
 
@@ -58,6 +61,7 @@ prepared-code-spec =
     enum-told-3
     code-requires-2
     enum-known-p-2
+    cast-code
     code-requires-3
     returns
     returns-2
