@@ -48,7 +48,7 @@ returns c =
     let c-args = p4 .args in
     let c-pre = p4 .pre in
     let a = completedOf (c-complete .result) in
-    let done : Completes (now (c-args .graph)) (now (c-args .never)) (now (c-args .atom-never)) _ _ _ _ (c-complete .result) = c-complete .ensures in
+    let done : Completes (now (c-args .graph)) (now (c-args .never)) (now (c-args .atom-never)) (now (c-args .output)) (c-loops .last .1 .0) (c-complete .last .1 .1 .1 .0) (c-complete .last .1 .1 .1 .1 .0) (c-complete .result) = c-complete .ensures in
     let row = pass-row (c-pre .0) (c-pre .1 .0) (c-loops .kept .1 .0 ∙ c-pre .1 .1) done in
     print-refusal a (a .place) row (c-completed-number .ensures .0) (c-completed-place .ensures .0) (c-if1 .taken) (done .absorbed) (c-put-refusal .ensures)
 
@@ -91,7 +91,7 @@ returns-2 c =
     let c-args = p4 .args in
     let c-pre = p4 .pre in
     let a = completedOf (c-complete .result) in
-    let done : Completes (now (c-args .graph)) (now (c-args .never)) (now (c-args .atom-never)) _ _ _ _ (c-complete .result) = c-complete .ensures in
+    let done : Completes (now (c-args .graph)) (now (c-args .never)) (now (c-args .atom-never)) (now (c-args .output)) (c-loops .last .1 .0) (c-complete .last .1 .1 .1 .0) (c-complete .last .1 .1 .1 .1 .0) (c-complete .result) = c-complete .ensures in
     let row = pass-row (c-pre .0) (c-pre .1 .0) (c-loops .kept .1 .0 ∙ c-pre .1 .1) done in
     let none : a .number ≡ 0 = sym (c-completed-number .ensures .0) ∙ c-if1 .left in
     print-both (a .place) (ap (λ (x : Answer). x .number) row ∙ none)

@@ -63,7 +63,7 @@ returns c =
     let c-put-text = p3 .put-text in
     let p4 = p3 .before .before .before .before in
     let c-args = p4 .args in
-    let word : Appended (now (c-args .out)) 0 refusedWord _ (c-put-text .result) = c-put-text .ensures in
+    let word : Appended (now (c-args .out)) 0 refusedWord (c-put-text .last .0) (c-put-text .result) = c-put-text .ensures in
     append-line refusedWord (c-args .number ∷ c-args .place ∷ []) (append-number refusedWord (c-args .number ∷ []) (c-args .place) (append-number refusedWord [] (c-args .number) (append-word refusedWord word) (c-put-spaced .ensures)) (c-put-spaced2 .ensures)) (c-put .ensures)
 
 pub put-refusal-spec : {M : Type 1} → statement M
