@@ -1,3 +1,4 @@
+pub mod AcceptEdges
 pub mod KindLaws
 pub mod DecodeLaws
 pub mod SearchLaws
@@ -5,4 +6,3 @@ pub mod FollowLaws
 pub mod RowLaws
 pub mod AcceptedLaws
 pub mod ReaderLaws
-pub mod EdgeLaws

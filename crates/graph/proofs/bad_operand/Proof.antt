@@ -1,3 +1,4 @@
+use mathlib.Core.Path.{refl}
 use Rattle.graph.specs.Refusals.{badOperand}
 use borrow.Author.Needs.{needs}
 use Rattle.graph.proofs.bad_operand.Statement.{statement}
@@ -11,14 +12,14 @@ unfolding badOperand
 returns c =
     let c-if1 = c .if1 in
     let c-takes-operand = c .before .takes-operand in
-    simp (← c-takes-operand .ensures, c-if1 .taken)
+    rw (← c-takes-operand .ensures, c-if1 .taken) refl
 
 returns-2 : tie.Need-returns-2
 unfolding badOperand
 returns-2 c =
     let c-if1 = c .if1 in
     let c-takes-operand = c .before .takes-operand in
-    simp (← c-takes-operand .ensures, c-if1 .left)
+    rw (← c-takes-operand .ensures, c-if1 .left) refl
 
 pub bad-operand-spec : {M : Type 1} → statement M
 bad-operand-spec = tie.close (tie.spec takes-operand-requires returns returns-2)

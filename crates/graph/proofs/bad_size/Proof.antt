@@ -1,3 +1,4 @@
+use mathlib.Core.Path.{refl}
 use Rattle.graph.specs.Refusals.{badSize}
 use borrow.Author.Needs.{needs}
 use Rattle.graph.proofs.bad_size.Statement.{statement}
@@ -36,7 +37,7 @@ returns c =
     let c-at3 = c .at3 in
     let c-at2 = c .before .at2 in
     let c-at = c .before .before .at in
-    rw (c-at .ensures .0, c-at2 .ensures .0, c-at3 .ensures .0)
+    rw (c-at .ensures .0, c-at2 .ensures .0, c-at3 .ensures .0) refl
 
 pub bad-size-spec : {M : Type 1} → statement M
 bad-size-spec =

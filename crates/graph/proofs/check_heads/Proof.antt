@@ -1,6 +1,9 @@
+use mathlib.Core.Path.{refl}
 use native.Mathlib.Omega.{arith}
 use denote.Ref.{now}
 use lib.ListN.{getD}
+use Rattle.theory.specs.Words.{theoryOf}
+use Rattle.theory.specs.Accepted.{leafEntries, headEntries}
 use Rattle.graph.specs.Answer.{firstRefusal}
 use borrow.Author.Tests.{lt-ltb, le-ltb}
 use Rattle.graph.specs.Refusals.{graphRows, badEntries}
@@ -29,25 +32,26 @@ enum-known-heads c = search needs
 returns : tie.Need-returns
 unfolding graphRows firstRefusal badEntries
 returns c =
-    let c-if1 = c .if1 in
     let c-heads = c .before .before .heads in
     let p1 = c .before .before .before .before in
     let c-walk-heads = p1 .walk-heads in
     let c-args = p1 .before .before .args in
     let c-pre = p1 .before .before .pre in
-    let w = walked-fine (c-walk-heads .ensures) (c-heads .given .1) in rw (row-passes _ 8 0 (getD (now (c-args .graph)) 3 0) (w .1) (omega arith) (omega arith), ← c-pre .1 .1, lt-ltb _ _ (c-if1 .taken))
+    let ws = now (c-args .graph) in
+    let w = walked-fine (c-walk-heads .ensures) (c-heads .given .1) in
+    rw (row-passes _ 8 0 (getD ws 3 0) (w .1) (omega arith) (omega arith), lt-ltb 4096 (leafEntries (theoryOf ws)) (omega (arith, c-pre .1 .1))) refl
 
 returns-2 : tie.Need-returns-2
 unfolding graphRows firstRefusal badEntries
 returns-2 c =
-    let c-if2 = c .if2 in
-    let c-if1 = c .before .if1 in
     let c-heads = c .before .before .before .heads in
     let p1 = c .before .before .before .before .before in
     let c-walk-heads = p1 .walk-heads in
     let c-args = p1 .before .before .args in
     let c-pre = p1 .before .before .pre in
-    let w = walked-fine (c-walk-heads .ensures) (c-heads .given .1) in rw (row-passes _ 8 0 (getD (now (c-args .graph)) 3 0) (w .1) (omega arith) (omega arith), ← c-pre .1 .1, ← w .0, le-ltb _ _ (c-if1 .left), lt-ltb _ _ (c-if2 .taken))
+    let ws = now (c-args .graph) in
+    let w = walked-fine (c-walk-heads .ensures) (c-heads .given .1) in
+    rw (row-passes _ 8 0 (getD ws 3 0) (w .1) (omega arith) (omega arith), le-ltb 4096 (leafEntries (theoryOf ws)) (omega (arith, c-pre .1 .1)), lt-ltb 4096 (headEntries (theoryOf ws)) (omega (arith, w .0))) refl
 
 returns-3 : tie.Need-returns-3
 unfolding graphRows firstRefusal
@@ -56,19 +60,20 @@ returns-3 c =
     let c-walk-heads = c .before .before .before .walk-heads in
     let p1 = c .before .before .before .before .before in
     let c-args = p1 .args in
-    let w = walked-wrong (c-walk-heads .ensures) (c-p .given .1) in rw (row-refuses _ 8 0 (getD (now (c-args .graph)) 3 0) (w .1) (omega arith) (w .0))
+    let w = walked-wrong (c-walk-heads .ensures) (c-p .given .1) in
+    rw (row-refuses _ 8 0 (getD (now (c-args .graph)) 3 0) (w .1) (omega arith) (w .0)) refl
 
 returns-4 : tie.Need-returns-4
 unfolding graphRows firstRefusal badEntries
 returns-4 c =
-    let c-if2 = c .if2 in
-    let c-if1 = c .before .if1 in
     let c-heads = c .before .before .before .heads in
     let p1 = c .before .before .before .before .before in
     let c-walk-heads = p1 .walk-heads in
     let c-args = p1 .before .before .args in
     let c-pre = p1 .before .before .pre in
-    let w = walked-fine (c-walk-heads .ensures) (c-heads .given .1) in rw (row-passes _ 8 0 (getD (now (c-args .graph)) 3 0) (w .1) (omega arith) (omega arith), ← c-pre .1 .1, ← w .0, le-ltb _ _ (c-if1 .left), le-ltb _ _ (c-if2 .left))
+    let ws = now (c-args .graph) in
+    let w = walked-fine (c-walk-heads .ensures) (c-heads .given .1) in
+    rw (row-passes _ 8 0 (getD ws 3 0) (w .1) (omega arith) (omega arith), le-ltb 4096 (leafEntries (theoryOf ws)) (omega (arith, c-pre .1 .1)), le-ltb 4096 (headEntries (theoryOf ws)) (omega (arith, w .0))) refl
 
 pub check-heads-spec : {M : Type 1} → statement M
 check-heads-spec =

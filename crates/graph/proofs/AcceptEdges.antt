@@ -1,11 +1,12 @@
--- Edges of document 01, computed: a leaf one below its node passes, an equal one gives 7, and a next equal to its own link gives 6.
+-- Edges of document 01, computed: a leaf one below its node passes, an equal one gives 7, and a next equal to its own link gives 6. Of two
+-- bad nodes the first is named; a bad node comes before a bad producer, and a bad head before too many entries.
 use mathlib.Core.Path.{_≡_, refl}
 use mathlib.Core.List.{List, [], _∷_}
 use Prim.Native.Nat.{ℕ}
 use Rattle.theory.specs.Sets.{any, sumBelow}
 use Rattle.theory.specs.Theory.{joins}
 use Rattle.theory.specs.Words.{kindOf, chainIn, chain, theoryOf}
-use Rattle.theory.specs.Accepted.{edition1}
+use Rattle.theory.specs.Accepted.{Edition, edition1}
 use Rattle.graph.specs.Kinds.{takesOperand}
 use Rattle.graph.specs.Answer.{accept, refuse, refuseFirst, firstRefusal}
 use Rattle.graph.specs.Refusals.{badEdition, badCounts, badSize, badOperand, badFirst, badRecord, badBody, badNext, badEntries, graphRows, graphAnswer}
@@ -14,7 +15,16 @@ use Rattle.graph.specs.Refusals.{badEdition, badCounts, badSize, badOper
 abbrev graph : ℕ → ℕ → List ℕ
 graph value next = 1 ∷ 0 ∷ 2 ∷ 0 ∷ 1 ∷ 0 ∷ 0 ∷ 0 ∷ 2 ∷ 0 ∷ 1 ∷ value ∷ next ∷ []
 
+-- no atoms, two nodes of the kinds given, a producer with the body and the first head given, and link 1 to atom 0
+abbrev pair : ℕ → ℕ → ℕ → ℕ → List ℕ
+pair k m body first = 1 ∷ 0 ∷ 2 ∷ 1 ∷ 1 ∷ k ∷ 0 ∷ 0 ∷ m ∷ 0 ∷ 0 ∷ body ∷ first ∷ 0 ∷ 0 ∷ []
+
+-- an edition that has no room for entries
+abbrev bare : Edition
+bare = record { number = 1; counts = 2; links = 1; entries = 0 }
+
 pub edges : (graphAnswer edition1 (graph 0 0) ≡ accept) × (graphAnswer edition1 (graph 1 0) ≡ refuse 7 1) × (graphAnswer edition1 (graph 0 1) ≡ refuse 6 1)
+    × (graphAnswer edition1 (pair 8 8 0 0) ≡ refuse 4 0) × (graphAnswer edition1 (pair 0 8 3 0) ≡ refuse 4 1) × (graphAnswer bare (pair 0 0 0 1) ≡ refuse 8 0)
 unfolding graphAnswer graphRows refuseFirst firstRefusal badEdition badCounts badSize badOperand badFirst badRecord badBody badNext badEntries
     takesOperand joins kindOf chainIn chain theoryOf any sumBelow
-edges = (refl, refl, refl)
+edges = (refl, refl, refl, refl, refl, refl)
