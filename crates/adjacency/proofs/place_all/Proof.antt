@@ -1,5 +1,5 @@
-use mathlib.Core.Path.{_≡_}
-use Prim.Native.Nat.{_-_, _+_}
+use mathlib.Core.Path.{_≡_, subst}
+use Prim.Native.Nat.{ℕ, _-_, _+_}
 use native.Mathlib.Omega.{arith}
 use denote.Ref.{now}
 use Rattle.theory.specs.Words.{theoryOf}
@@ -26,7 +26,9 @@ loop-holds : tie.Need-loop-holds Inv-loop μ-loop
 loop-holds c =
     let c-items = c .items in
     let c-args = c .before .before .before .args in
-    let z : c-items .result - 0 ≡ itemsOf (theoryOf (now (c-args .graph))) (c-args .table) = omega (arith, c-items .ensures) in rw z (drives-none (Building 65536 (c-args .filling) (c-args .rows)))
+    let th = theoryOf (now (c-args .graph)) in
+    let z : itemsOf th (c-args .table) ≡ c-items .result - 0 = omega (arith, c-items .ensures) in
+    subst (λ (k : ℕ). Drives (Building 65536 (c-args .filling) (c-args .rows)) 0 (now (c-args .part)) 0 (edgesOf th (c-args .table)) (now (c-args .part)) 0 (stream (keysOf th (c-args .table)) 0 k)) z (drives-none (Building 65536 (c-args .filling) (c-args .rows)))
 
 place-item-requires : tie.Need-place-item-requires Inv-loop μ-loop
 place-item-requires c κs =

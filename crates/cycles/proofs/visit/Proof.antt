@@ -47,12 +47,11 @@ same-length-2 c = search needs
 
 returns-2 : tie.Need-returns-2
 returns-2 c =
-    let c-if2 = c .if2 in
     let c-decrement = c .before .before .before .decrement in
     let p1 = c .before .before .before .before .before .before in
     let c-if1 = p1 .if1 in
     let c-pre = p1 .before .before .pre in
-    rw (c-decrement .ensures .1) (drives-followed (c-pre) (c-if1 .left) (c-decrement .result) (c-decrement .ensures .0) (c-if2 .taken))
+    rw (c-decrement .ensures .1) (drives-followed (c-pre) (c-if1 .left) (c-decrement .result) (c-decrement .ensures .0) (omega arith))
 
 add-put : tie.Need-add-put
 add-put c =
