@@ -10,7 +10,7 @@ use lib.Dec.{eqb, ltb, leb}
 use lib.ListN.{length, getD}
 use Rattle.theory.specs.Sets.{Mem, any}
 use Rattle.theory.specs.Theory.{joins}
-use Rattle.theory.specs.Words.{kindOf, nextOf, Ending, theoryOf}
+use Rattle.theory.specs.Words.{kindOf, nodeAt, producerAt, nextOf, Ending, theoryOf}
 use Rattle.theory.specs.Accepted.{Edition, sizeOf, leafEntries, headEntries}
 use Rattle.theory.proofs.SetLaws.{bool-cases, clash, any-holds}
 use Rattle.theory.proofs.ChainLaws.{upward-ending}
@@ -105,6 +105,19 @@ next-fine next l links e = go (bool-cases (eqb next 0))
     go : (eqb next 0 ≡ true) ⊎ (eqb next 0 ≡ false) → (next ≡ 0) ⊎ ((l < next) × (next ≤ links))
     go (inl t) = inl (eqb-true next 0 t)
     go (inr f) = inr (leb-false next l (rw f at (p .1)), ltb-false links next (p .0))
+
+-- what a record's test says of the fields that were read is what the row says of the record
+module _ (ws : List ℕ) {answer b : Bool} where
+  pub node-told : (n : ℕ) {kind operand first atoms links : ℕ} → answer ≡ badRecord kind operand first atoms links → kind ≡ getD ws (nodeAt n) 0 → operand ≡ getD ws (nodeAt n + 1) 0 → first ≡ leafLink ws n
+      → atoms ≡ getD ws 1 0 → links ≡ getD ws 4 0 → answer ≡ b → badNode ws n ≡ b
+  node-told n e k o f a l t = rw (← k, ← o, ← f, ← a, ← l) (sym e ∙ t)
+
+  pub producer-told : (p : ℕ) {body first nodes links : ℕ} → answer ≡ badBody body first nodes links → body ≡ getD ws (producerAt ws p) 0 → first ≡ headLink ws p
+      → nodes ≡ getD ws 2 0 → links ≡ getD ws 4 0 → answer ≡ b → badProducer ws p ≡ b
+  producer-told p e o f n l t = rw (← o, ← f, ← n, ← l) (sym e ∙ t)
+
+  pub link-told : (l : ℕ) {next links : ℕ} → answer ≡ badNext next l links → next ≡ nextOf ws l → links ≡ getD ws 4 0 → answer ≡ b → badLink ws l ≡ b
+  link-told l e n k t = rw (← n, ← k) (sym e ∙ t)
 
 -- every entry of a chain that passes is below the limit
 pub entry-low : (limit : ℕ) {x : ℕ} {l : List ℕ} → any (leb limit) l ≡ false → Mem x l → x < limit

@@ -1,8 +1,10 @@
 use native.Mathlib.Omega.{arith}
+use denote.Ref.{now}
 use Prim.Native.Nat.{_+_, _≤_, _-_}
 use Rattle.graph.specs.Search.{Clear}
 use Rattle.graph.specs.Refusals.{badLink}
 use Rattle.graph.proofs.SearchLaws.{clear-none, clear-more, first-found, first-none}
+use Rattle.graph.proofs.RowLaws.{link-told}
 use borrow.Author.Needs.{needs}
 use Rattle.graph.proofs.bad_link.Statement.{statement}
 use Rattle.graph.proofs.bad_link.Tie as tie
@@ -27,9 +29,14 @@ bad-next-requires c κs = search needs
 
 returns : tie.Need-returns Inv-loop μ-loop
 returns c =
+    let c-if1 = c .if1 in
+    let c-bad-next = c .before .bad-next in
+    let c-next = c .before .before .next in
     let p1 = c .before .before .before .before in
     let c-loop = p1 .loop in
-    first-found (c-loop .inv .1) (omega arith) (cc)
+    let c-links = p1 .before .links in
+    let c-args = p1 .before .before .before .args in
+    first-found (c-loop .inv .1) (omega arith) (link-told (now (c-args .graph)) (c-loop .l) (c-bad-next .ensures) (c-next .ensures) (c-links .ensures) (c-if1 .taken))
 
 add-l : tie.Need-add-l Inv-loop μ-loop
 add-l c = search needs
@@ -39,9 +46,14 @@ loop-less c = search needs
 
 loop-again : tie.Need-loop-again Inv-loop μ-loop
 loop-again c =
+    let c-if1 = c .if1 in
+    let c-bad-next = c .before .bad-next in
+    let c-next = c .before .before .next in
     let p1 = c .before .before .before .before in
     let c-loop = p1 .loop in
-    (omega arith, clear-more (c-loop .inv .1) (cc))
+    let c-links = p1 .before .links in
+    let c-args = p1 .before .before .before .args in
+    (omega arith, clear-more (c-loop .inv .1) (link-told (now (c-args .graph)) (c-loop .l) (c-bad-next .ensures) (c-next .ensures) (c-links .ensures) (c-if1 .left)))
 
 returns-2 : tie.Need-returns-2 Inv-loop μ-loop
 returns-2 c =

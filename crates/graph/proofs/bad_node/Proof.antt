@@ -1,8 +1,10 @@
 use native.Mathlib.Omega.{arith}
+use denote.Ref.{now}
 use Prim.Native.Nat.{_≤_, _-_}
 use Rattle.graph.specs.Search.{Clear}
 use Rattle.graph.specs.Refusals.{badNode}
 use Rattle.graph.proofs.SearchLaws.{clear-none, clear-more, first-found, first-none}
+use Rattle.graph.proofs.RowLaws.{node-told}
 use borrow.Author.Needs.{needs}
 use Rattle.graph.proofs.bad_node.Statement.{statement}
 use Rattle.graph.proofs.bad_node.Tie as tie
@@ -39,9 +41,17 @@ bad-record-requires c κs = search needs
 
 returns : tie.Need-returns Inv-loop μ-loop
 returns c =
+    let c-if1 = c .if1 in
+    let c-bad-record = c .before .bad-record in
+    let c-first-leaf = c .before .before .first-leaf in
+    let c-operand = c .before .before .before .operand in
+    let c-kind = c .before .before .before .before .kind in
     let p1 = c .before .before .before .before .before .before in
     let c-loop = p1 .loop in
-    first-found (c-loop .inv .1) (omega arith) (cc)
+    let c-links = p1 .before .links in
+    let c-atoms = p1 .before .before .atoms in
+    let c-args = p1 .before .before .before .before .before .args in
+    first-found (c-loop .inv .1) (omega arith) (node-told (now (c-args .graph)) (c-loop .n) (c-bad-record .ensures) (c-kind .ensures) (c-operand .ensures) (c-first-leaf .ensures) (c-atoms .ensures) (c-links .ensures) (c-if1 .taken))
 
 add-n : tie.Need-add-n Inv-loop μ-loop
 add-n c = search needs
@@ -51,9 +61,17 @@ loop-less c = search needs
 
 loop-again : tie.Need-loop-again Inv-loop μ-loop
 loop-again c =
+    let c-if1 = c .if1 in
+    let c-bad-record = c .before .bad-record in
+    let c-first-leaf = c .before .before .first-leaf in
+    let c-operand = c .before .before .before .operand in
+    let c-kind = c .before .before .before .before .kind in
     let p1 = c .before .before .before .before .before .before in
     let c-loop = p1 .loop in
-    (omega arith, clear-more (c-loop .inv .1) (cc))
+    let c-links = p1 .before .links in
+    let c-atoms = p1 .before .before .atoms in
+    let c-args = p1 .before .before .before .before .before .args in
+    (omega arith, clear-more (c-loop .inv .1) (node-told (now (c-args .graph)) (c-loop .n) (c-bad-record .ensures) (c-kind .ensures) (c-operand .ensures) (c-first-leaf .ensures) (c-atoms .ensures) (c-links .ensures) (c-if1 .left)))
 
 returns-2 : tie.Need-returns-2 Inv-loop μ-loop
 returns-2 c =

@@ -1,8 +1,10 @@
 use native.Mathlib.Omega.{arith}
+use denote.Ref.{now}
 use Prim.Native.Nat.{_≤_, _-_}
 use Rattle.graph.specs.Search.{Clear}
 use Rattle.graph.specs.Refusals.{badProducer}
 use Rattle.graph.proofs.SearchLaws.{clear-none, clear-more, first-found, first-none}
+use Rattle.graph.proofs.RowLaws.{producer-told}
 use borrow.Author.Needs.{needs}
 use Rattle.graph.proofs.bad_producer.Statement.{statement}
 use Rattle.graph.proofs.bad_producer.Tie as tie
@@ -36,9 +38,16 @@ bad-body-requires c κs = search needs
 
 returns : tie.Need-returns Inv-loop μ-loop
 returns c =
+    let c-if1 = c .if1 in
+    let c-bad-body = c .before .bad-body in
+    let c-first-head = c .before .before .first-head in
+    let c-body = c .before .before .before .body in
     let p1 = c .before .before .before .before .before in
     let c-loop = p1 .loop in
-    first-found (c-loop .inv .1) (omega arith) (cc)
+    let c-links = p1 .before .links in
+    let c-nodes = p1 .before .before .nodes in
+    let c-args = p1 .before .before .before .before .before .args in
+    first-found (c-loop .inv .1) (omega arith) (producer-told (now (c-args .graph)) (c-loop .p) (c-bad-body .ensures) (c-body .ensures) (c-first-head .ensures) (c-nodes .ensures) (c-links .ensures) (c-if1 .taken))
 
 add-p : tie.Need-add-p Inv-loop μ-loop
 add-p c = search needs
@@ -48,9 +57,16 @@ loop-less c = search needs
 
 loop-again : tie.Need-loop-again Inv-loop μ-loop
 loop-again c =
+    let c-if1 = c .if1 in
+    let c-bad-body = c .before .bad-body in
+    let c-first-head = c .before .before .first-head in
+    let c-body = c .before .before .before .body in
     let p1 = c .before .before .before .before .before in
     let c-loop = p1 .loop in
-    (omega arith, clear-more (c-loop .inv .1) (cc))
+    let c-links = p1 .before .links in
+    let c-nodes = p1 .before .before .nodes in
+    let c-args = p1 .before .before .before .before .before .args in
+    (omega arith, clear-more (c-loop .inv .1) (producer-told (now (c-args .graph)) (c-loop .p) (c-bad-body .ensures) (c-body .ensures) (c-first-head .ensures) (c-nodes .ensures) (c-links .ensures) (c-if1 .left)))
 
 returns-2 : tie.Need-returns-2 Inv-loop μ-loop
 returns-2 c =

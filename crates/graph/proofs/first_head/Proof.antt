@@ -12,7 +12,10 @@ at-requires : tie.Need-at-requires
 at-requires c κs = search needs
 
 returns : tie.Need-returns
-returns c = cc
+returns c =
+    let c-at = c .at in
+    let c-producer-at = c .before .producer-at in
+    rw (← c-producer-at .ensures) (c-at .ensures .0)
 
 pub first-head-spec : {M : Type 1} → statement M
 first-head-spec = tie.close (tie.spec producer-at-requires add-at at-requires returns)
