@@ -48,8 +48,9 @@ fn place_chain(
 {
     let mut l = first;
     while l > 0 {
-        place(part, rows, filling, graph::value(graph, l), item);
+        let row = graph::value(graph, l);
         l = graph::next(graph, l);
+        place(part, rows, filling, row, item);
     }
 }
 

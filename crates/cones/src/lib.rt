@@ -69,8 +69,9 @@ fn include_chain(graph: &[u16], work: &mut [u16], b: Bases, first: usize, count:
     let mut t = count;
     let mut l = first;
     while l > 0 {
-        t = include(work, b, graph::value(graph, l), t);
+        let v = graph::value(graph, l);
         l = graph::next(graph, l);
+        t = include(work, b, v, t);
     }
     t
 }

@@ -102,8 +102,9 @@ fn visit_heads(
     let mut t = tail;
     let mut l = graph::first_head(graph, p);
     while l > 0 {
-        t = visit(work, b, event, graph::value(graph, l), t);
+        let v = graph::value(graph, l);
         l = graph::next(graph, l);
+        t = visit(work, b, event, v, t);
     }
     t
 }

@@ -88,8 +88,9 @@ fn look_node(graph: &[u16], work: &mut [u16], b: Bases, v: usize) -> Entry
         area::put(work, place, 0);
         return Entry::Vertex(graph::operand(graph, n));
     }
+    let leaf = graph::value(graph, cursor);
     area::put(work, place, graph::next(graph, cursor));
-    Entry::Vertex(b.atoms + graph::value(graph, cursor))
+    Entry::Vertex(b.atoms + leaf)
 }
 
 // The next entry of a vertex; its cursor goes past it.

@@ -85,8 +85,9 @@ fn activate_heads(graph: &[u16], work: &mut [u16], b: Bases, p: usize, tail: usi
     let mut t = tail;
     let mut l = graph::first_head(graph, p);
     while l > 0 {
-        t = activate_atom(work, b, graph::value(graph, l), t);
+        let v = graph::value(graph, l);
         l = graph::next(graph, l);
+        t = activate_atom(work, b, v, t);
     }
     t
 }

@@ -28,6 +28,13 @@ loop-holds c =
 
 value-requires : tie.Need-value-requires Inv-loop μ-loop
 value-requires c κs =
+    let c-loop = c .before .loop in
+    let p1 = c .before .before .before .before in
+    let c-pre = p1 .pre in
+    link-in (c-pre .0 .0) (c-loop .inv .0) (omega arith)
+
+next-requires : tie.Need-next-requires Inv-loop μ-loop
+next-requires c κs =
     let c-loop = c .before .before .loop in
     let p1 = c .before .before .before .before .before in
     let c-pre = p1 .pre in
@@ -35,37 +42,29 @@ value-requires c κs =
 
 place-requires : tie.Need-place-requires Inv-loop μ-loop
 place-requires c κs =
-    let c-value = c .value in
-    let c-loop = c .before .before .before .loop in
-    let p1 = c .before .before .before .before .before .before in
+    let c-value = c .before .before .value in
+    let c-loop = c .before .before .before .before .loop in
+    let p1 = c .before .before .before .before .before .before .before in
     let c-args = p1 .args in
     let c-pre = p1 .pre in
     turn-next (Building 65536 (c-args .filling) (c-args .rows)) (tagged (c-args .item)) (λ r. edge r (c-args .item) ∷ []) (λ r l. refl) (c-loop .inv .1) (chain-turn (now (c-args .graph)) (c-loop .inv .0) (omega arith) (c-value .ensures) refl) (c-pre .1)
 
-next-requires : tie.Need-next-requires Inv-loop μ-loop
-next-requires c κs =
-    let p1 = c .before .before .before .before .before .before in
-    let c-loop = p1 .loop in
-    let c-pre = p1 .before .before .before .pre in
-    link-in (c-pre .0 .0) (c-loop .inv .0) (omega arith)
-
 loop-less : tie.Need-loop-less Inv-loop μ-loop
 loop-less c =
-    let c-next = c .next in
-    let p1 = c .before .before .before .before .before .before .before in
-    let c-loop = p1 .loop in
-    let c-args = p1 .before .before .before .args in
+    let p1 = c .before .before .before .before in
+    let c-next = p1 .next in
+    let c-loop = p1 .before .before .before .loop in
+    let c-args = p1 .before .before .before .before .before .before .args in
     rw (c-next .ensures) (chain-falls (now (c-args .graph)) (c-loop .inv .0) (omega arith))
 
 loop-again : tie.Need-loop-again Inv-loop μ-loop
 loop-again c =
-    let c-next = c .next in
-    let c-place = c .before .before .before .place in
+    let c-place = c .before .before .place in
     let p1 = c .before .before .before .before in
-    let c-value = p1 .value in
+    let c-next = p1 .next in
+    let c-value = p1 .before .value in
     let c-loop = p1 .before .before .before .loop in
-    let p2 = p1 .before .before .before .before .before .before in
-    let c-args = p2 .args in
+    let c-args = p1 .before .before .before .before .before .before .args in
     (rw (c-next .ensures) (ending-next (now (c-args .graph)) (c-loop .inv .0) (omega arith)), turn-more (Building 65536 (c-args .filling) (c-args .rows)) (tagged (c-args .item)) (λ r. edge r (c-args .item) ∷ []) (λ r l. refl) (c-loop .inv .1) (chain-turn (now (c-args .graph)) (c-loop .inv .0) (omega arith) (c-value .ensures) (c-next .ensures)) (c-place .ensures))
 
 same-length : tie.Need-same-length Inv-loop μ-loop
@@ -86,8 +85,8 @@ place-chain-spec =
     μ-loop
     loop-holds
     value-requires
-    place-requires
     next-requires
+    place-requires
     loop-less
     loop-again
     same-length

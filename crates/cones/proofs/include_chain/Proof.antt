@@ -26,6 +26,13 @@ loop-holds c =
 
 value-requires : tie.Need-value-requires Inv-loop μ-loop
 value-requires c κs =
+    let c-loop = c .before .loop in
+    let p1 = c .before .before .before .before in
+    let c-pre = p1 .pre in
+    link-in (c-pre .0 .0) (c-loop .inv .0) (λ z. omega arith)
+
+next-requires : tie.Need-next-requires Inv-loop μ-loop
+next-requires c κs =
     let c-loop = c .before .before .loop in
     let p1 = c .before .before .before .before .before in
     let c-pre = p1 .pre in
@@ -33,23 +40,16 @@ value-requires c κs =
 
 include-requires : tie.Need-include-requires Inv-loop μ-loop
 include-requires c κs =
-    let c-value = c .value in
-    let c-loop = c .before .before .before .loop in
-    let p1 = c .before .before .before .before .before .before in
+    let c-value = c .before .before .value in
+    let c-loop = c .before .before .before .before .loop in
+    let p1 = c .before .before .before .before .before .before .before in
     let c-args = p1 .args in
     let c-pre = p1 .pre in
     turn-next (Searching 65536 (c-args .b)) (λ l. l) (λ x. x ∷ []) (λ x xs. refl) (c-loop .inv .1) (chain-turn (now (c-args .graph)) (c-loop .inv .0) (λ z. omega arith) (c-value .ensures) refl) (c-pre .1)
 
-next-requires : tie.Need-next-requires Inv-loop μ-loop
-next-requires c κs =
-    let p1 = c .before .before .before .before .before .before in
-    let c-loop = p1 .loop in
-    let c-pre = p1 .before .before .before .pre in
-    link-in (c-pre .0 .0) (c-loop .inv .0) (λ z. omega arith)
-
 loop-less : tie.Need-loop-less Inv-loop μ-loop
 loop-less c =
-    let c-next = c .next in
+    let c-next = c .before .before .before .before .next in
     let p1 = c .before .before .before .before .before .before .before in
     let c-loop = p1 .loop in
     let c-args = p1 .before .before .before .args in
@@ -57,10 +57,10 @@ loop-less c =
 
 loop-again : tie.Need-loop-again Inv-loop μ-loop
 loop-again c =
-    let c-next = c .next in
-    let c-include = c .before .before .before .include in
+    let c-next = c .before .before .before .before .next in
+    let c-include = c .before .before .include in
     let p1 = c .before .before .before .before in
-    let c-value = p1 .value in
+    let c-value = p1 .before .value in
     let c-loop = p1 .before .before .before .loop in
     let p2 = p1 .before .before .before .before .before .before in
     let c-args = p2 .args in (
@@ -88,8 +88,8 @@ include-chain-spec =
     μ-loop
     loop-holds
     value-requires
-    include-requires
     next-requires
+    include-requires
     loop-less
     loop-again
     same-length

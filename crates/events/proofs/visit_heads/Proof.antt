@@ -39,6 +39,13 @@ loop-holds c =
 
 value-requires : tie.Need-value-requires Inv-loop μ-loop
 value-requires c κs =
+    let c-loop = c .before .loop in
+    let p1 = c .before .before .before .before .before in
+    let c-pre = p1 .pre in
+    link-in (c-pre .0 .0) (c-loop .inv .0) (omega arith)
+
+next-requires : tie.Need-next-requires Inv-loop μ-loop
+next-requires c κs =
     let c-loop = c .before .before .loop in
     let p1 = c .before .before .before .before .before .before in
     let c-pre = p1 .pre in
@@ -46,24 +53,16 @@ value-requires c κs =
 
 visit-requires : tie.Need-visit-requires Inv-loop μ-loop
 visit-requires c κs =
-    let c-value = c .value in
-    let c-loop = c .before .before .before .loop in
-    let p1 = c .before .before .before .before .before .before .before in
+    let c-value = c .before .before .value in
+    let c-loop = c .before .before .before .before .loop in
+    let p1 = c .before .before .before .before .before .before .before .before in
     let c-args = p1 .args in
     let c-pre = p1 .pre in
     turn-next (Held 65536 (c-args .b) (c-args .event)) (λ l. l) (λ x. x ∷ []) (λ x l. refl) (c-loop .inv .1) (chain-turn (now (c-args .graph)) (c-loop .inv .0) (omega arith) (c-value .ensures) refl) (c-pre .1)
 
-next-requires : tie.Need-next-requires Inv-loop μ-loop
-next-requires c κs =
-    let p1 = c .before .before .before .before .before .before in
-    let c-loop = p1 .loop in
-    let p2 = p1 .before .before .before .before in
-    let c-pre = p2 .pre in
-    link-in (c-pre .0 .0) (c-loop .inv .0) (omega arith)
-
 loop-less : tie.Need-loop-less Inv-loop μ-loop
 loop-less c =
-    let c-next = c .next in
+    let c-next = c .before .before .before .before .next in
     let p1 = c .before .before .before .before .before .before .before in
     let c-loop = p1 .loop in
     let p2 = p1 .before .before .before .before in
@@ -72,10 +71,10 @@ loop-less c =
 
 loop-again : tie.Need-loop-again Inv-loop μ-loop
 loop-again c =
-    let c-next = c .next in
-    let c-visit = c .before .before .before .visit in
+    let c-next = c .before .before .before .before .next in
+    let c-visit = c .before .before .visit in
     let p1 = c .before .before .before .before in
-    let c-value = p1 .value in
+    let c-value = p1 .before .value in
     let c-loop = p1 .before .before .before .loop in
     let p2 = p1 .before .before .before .before .before .before .before in
     let c-args = p2 .args in
@@ -100,8 +99,8 @@ visit-heads-spec =
     first-head-requires
     loop-holds
     value-requires
-    visit-requires
     next-requires
+    visit-requires
     loop-less
     loop-again
     same-length

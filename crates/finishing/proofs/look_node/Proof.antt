@@ -80,21 +80,20 @@ returns-2 c =
     let c-pre = p3 .pre in
     rw (c-put .ensures) (node-operand (c-pre .0) (c-pre .1) (c-pre .2) (c-at .ensures .0) (c-if1 .left) (sym (node-says _ (c-pre .0) (c-pre .1 .low) (atoms-are (c-pre .1 .ready .based)) (c-pre .2) (c-kind .ensures) (c-takes-operand .ensures)) ∙ c-if2 .taken) (c-operand .ensures))
 
-next-requires : tie.Need-next-requires
-next-requires c κs =
-    let c-if2 = c .before .if2 in
-    let c-takes-operand = c .before .before .takes-operand in
-    let c-kind = c .before .before .before .kind in
-    let p1 = c .before .before .before .before .before in
+value-requires : tie.Need-value-requires
+value-requires c κs =
+    let c-if2 = c .if2 in
+    let c-takes-operand = c .before .takes-operand in
+    let c-kind = c .before .before .kind in
+    let p1 = c .before .before .before .before in
     let c-if1 = p1 .if1 in
     let c-at = p1 .before .at in
     let p2 = p1 .before .before .before .before .before .before in
     let c-pre = p2 .pre in
     link-place (c-pre .0) (c-pre .1) (c-pre .2) (c-at .ensures .0) (c-if1 .left) (sym (node-says _ (c-pre .0) (c-pre .1 .low) (atoms-are (c-pre .1 .ready .based)) (c-pre .2) (c-kind .ensures) (c-takes-operand .ensures)) ∙ c-if2 .left)
 
-put-requires-2 : tie.Need-put-requires-2
-put-requires-2 c κs =
-    let c-next = c .next in
+next-requires : tie.Need-next-requires
+next-requires c κs =
     let c-if2 = c .before .before .if2 in
     let c-takes-operand = c .before .before .before .takes-operand in
     let p1 = c .before .before .before .before in
@@ -103,28 +102,28 @@ put-requires-2 c κs =
     let c-at = p1 .before .before .before .at in
     let p2 = p1 .before .before .before .before .before .before .before .before in
     let c-pre = p2 .pre in
+    link-place (c-pre .0) (c-pre .1) (c-pre .2) (c-at .ensures .0) (c-if1 .left) (sym (node-says _ (c-pre .0) (c-pre .1 .low) (atoms-are (c-pre .1 .ready .based)) (c-pre .2) (c-kind .ensures) (c-takes-operand .ensures)) ∙ c-if2 .left)
+
+put-requires-2 : tie.Need-put-requires-2
+put-requires-2 c κs =
+    let c-next = c .next in
+    let c-if2 = c .before .before .before .if2 in
+    let p1 = c .before .before .before .before in
+    let c-takes-operand = p1 .takes-operand in
+    let c-kind = p1 .before .kind in
+    let c-if1 = p1 .before .before .before .if1 in
+    let c-at = p1 .before .before .before .before .at in
+    let p2 = p1 .before .before .before .before .before .before .before .before .before in
+    let c-pre = p2 .pre in
     let c-args = p2 .args in
     (cursor-place (c-pre .1 .ready .based) (c-args .v) (c-pre .1 .low), (let f = next-few (c-pre .0) (c-pre .1) (c-pre .2) (c-at .ensures .0) (c-if1 .left) (sym (node-says _ (c-pre .0) (c-pre .1 .low) (atoms-are (c-pre .1 .ready .based)) (c-pre .2) (c-kind .ensures) (c-takes-operand .ensures)) ∙ c-if2 .left) in let e = c-next .ensures in omega arith))
 
-value-requires : tie.Need-value-requires
-value-requires c κs =
-    let p1 = c .before .before .before .before .before in
-    let c-if2 = p1 .if2 in
-    let c-takes-operand = p1 .before .takes-operand in
-    let c-kind = p1 .before .before .kind in
-    let p2 = p1 .before .before .before .before in
-    let c-if1 = p2 .if1 in
-    let c-at = p2 .before .at in
-    let p3 = p2 .before .before .before .before .before .before in
-    let c-pre = p3 .pre in
-    link-place (c-pre .0) (c-pre .1) (c-pre .2) (c-at .ensures .0) (c-if1 .left) (sym (node-says _ (c-pre .0) (c-pre .1 .low) (atoms-are (c-pre .1 .ready .based)) (c-pre .2) (c-kind .ensures) (c-takes-operand .ensures)) ∙ c-if2 .left)
-
-add-t20 : tie.Need-add-t20
-add-t20 c =
-    let c-value = c .before .value in
-    let p1 = c .before .before .before .before .before .before .before .before .before .before .before .before in
-    let c-at = p1 .at in
-    let p2 = p1 .before .before .before .before in
+add-t13 : tie.Need-add-t13
+add-t13 c =
+    let p0 = c .before .before .before .before .before .before in
+    let c-value = p0 .value in
+    let c-at = p0 .before .before .before .before .before .before .at in
+    let p2 = p0 .before .before .before .before .before .before .before .before .before .before in
     let c-shared-slice-known = p2 .shared-slice-known in
     let c-pre = p2 .before .pre in
     let c-args = p2 .before .args in
@@ -135,19 +134,18 @@ same-length-3 c = search needs
 
 returns-3 : tie.Need-returns-3
 returns-3 c =
-    let c-value = c .before .value in
-    let p1 = c .before .before .before .before in
-    let c-put2 = p1 .put2 in
-    let c-next = p1 .before .next in
-    let c-if2 = p1 .before .before .before .if2 in
-    let p2 = p1 .before .before .before .before in
-    let c-takes-operand = p2 .takes-operand in
-    let c-kind = p2 .before .kind in
-    let c-if1 = p2 .before .before .before .if1 in
-    let p3 = p2 .before .before .before .before in
-    let c-at = p3 .at in
-    let p4 = p3 .before .before .before .before .before in
-    let c-pre = p4 .pre in
+    let c-put2 = c .before .before .before .put2 in
+    let c-next = c .before .before .before .before .next in
+    let p1 = c .before .before .before .before .before .before in
+    let c-value = p1 .value in
+    let c-if2 = p1 .before .if2 in
+    let c-takes-operand = p1 .before .before .takes-operand in
+    let c-kind = p1 .before .before .before .kind in
+    let p2 = p1 .before .before .before .before .before in
+    let c-if1 = p2 .if1 in
+    let c-at = p2 .before .at in
+    let p3 = p2 .before .before .before .before .before .before in
+    let c-pre = p3 .pre in
     rw (c-put2 .ensures) (node-leaf (c-pre .0) (c-pre .1) (c-pre .2) (c-at .ensures .0) (c-if1 .left) (sym (node-says _ (c-pre .0) (c-pre .1 .low) (atoms-are (c-pre .1 .ready .based)) (c-pre .2) (c-kind .ensures) (c-takes-operand .ensures)) ∙ c-if2 .left) (c-next .ensures) (c-value .ensures))
 
 pub look-node-spec : {M : Type 1} → statement M
@@ -165,9 +163,9 @@ look-node-spec =
     operand-requires
     same-length-2
     returns-2
+    value-requires
     next-requires
     put-requires-2
-    value-requires
-    add-t20
+    add-t13
     same-length-3
     returns-3)

@@ -39,6 +39,13 @@ loop-holds c =
 
 value-requires : tie.Need-value-requires Inv-loop μ-loop
 value-requires c κs =
+    let c-loop = c .before .loop in
+    let p1 = c .before .before .before .before .before in
+    let c-pre = p1 .pre in
+    link-in (c-pre .0 .0) (c-loop .inv .0) (λ z. omega arith)
+
+next-requires : tie.Need-next-requires Inv-loop μ-loop
+next-requires c κs =
     let c-loop = c .before .before .loop in
     let p1 = c .before .before .before .before .before .before in
     let c-pre = p1 .pre in
@@ -46,24 +53,16 @@ value-requires c κs =
 
 activate-atom-requires : tie.Need-activate-atom-requires Inv-loop μ-loop
 activate-atom-requires c κs =
-    let c-value = c .value in
-    let c-loop = c .before .before .before .loop in
-    let p1 = c .before .before .before .before .before .before .before in
+    let c-value = c .before .before .value in
+    let c-loop = c .before .before .before .before .loop in
+    let p1 = c .before .before .before .before .before .before .before .before in
     let c-pre = p1 .pre in
     let c-args = p1 .args in
     (let a = c-pre .0 .0 in let m = c-pre .0 .1 in omega arith, follows-next (At (c-args .b)) (c-value .result ∷ []) (chain (now (c-args .graph)) (nextOf (now (c-args .graph)) (c-loop .l))) (chain-turn (now (c-args .graph)) (c-loop .inv .0) (λ z. omega arith) (c-value .ensures) refl) (c-loop .inv .1) (c-pre .1))
 
-next-requires : tie.Need-next-requires Inv-loop μ-loop
-next-requires c κs =
-    let p1 = c .before .before .before .before .before .before in
-    let c-loop = p1 .loop in
-    let p2 = p1 .before .before .before .before in
-    let c-pre = p2 .pre in
-    link-in (c-pre .0 .0) (c-loop .inv .0) (λ z. omega arith)
-
 loop-less : tie.Need-loop-less Inv-loop μ-loop
 loop-less c =
-    let c-next = c .next in
+    let c-next = c .before .before .before .before .next in
     let p1 = c .before .before .before .before .before .before .before in
     let c-loop = p1 .loop in
     let p2 = p1 .before .before .before .before in
@@ -72,10 +71,10 @@ loop-less c =
 
 loop-again : tie.Need-loop-again Inv-loop μ-loop
 loop-again c =
-    let c-next = c .next in
-    let c-activate-atom = c .before .before .before .activate-atom in
+    let c-next = c .before .before .before .before .next in
+    let c-activate-atom = c .before .before .activate-atom in
     let p1 = c .before .before .before .before in
-    let c-value = p1 .value in
+    let c-value = p1 .before .value in
     let c-loop = p1 .before .before .before .loop in
     let p2 = p1 .before .before .before .before .before .before .before in
     let c-args = p2 .args in
@@ -102,8 +101,8 @@ activate-heads-spec =
     first-head-requires
     loop-holds
     value-requires
-    activate-atom-requires
     next-requires
+    activate-atom-requires
     loop-less
     loop-again
     same-length
