@@ -2,7 +2,6 @@ use mathlib.Core.Path.{refl}
 use native.Mathlib.Omega.{arith}
 use borrow.Author.Tests.{lt-ltb, le-ltb}
 use Rattle.graph.specs.Refusals.{badRecord}
-use borrow.Author.Needs.{needs}
 use Rattle.graph.proofs.rows.bad_record.Statement.{statement}
 use Rattle.graph.proofs.rows.bad_record.Tie as tie
 
