@@ -1,3 +1,4 @@
+pub mod DegreeLaws
 pub mod VisitLaws
 pub mod TurnLaws
 pub mod VertexLaws

@@ -1,21 +1,22 @@
--- The loops of the test, a turn each: counting a row (`row-counted`), looking at a vertex (`looked`, `added`), following the vertex at the
+-- The loops of the test, a turn each: counting a node (`node-counted`) and a producer (`fact-counted`, `heads-counted`), looking at a vertex (`looked`, `added`), following the vertex at the
 -- head of the queue (`head-followed`), and the answer.
-use mathlib.Core.Path.{_≡_, refl, sym, _∙_, subst}
+use mathlib.Core.Path.{_≡_, refl, sym, ap, _∙_, subst}
+use mathlib.Core.Logic.{_≢_}
 use mathlib.Core.Bool.{true, false}
 use mathlib.Core.List.{List, [], _∷_, List·Memᴰ·not-nil}
-use Prim.Native.Nat.{ℕ, zero, suc, _+_, _≤_, _<_, zero-le}
+use Prim.Native.Nat.{ℕ, zero, suc, _+_, _-_, _≤_, _<_, zero-le}
 use native.Mathlib.Omega.{arith}
 use native.Mathlib.Numerals.{add-one}
 use native.Mathlib.Decide.{ℕ-discrete, decLt}
 use borrow.Author.Tests.{lt-ltb, le-ltb}
 use lib.Dec.{ltb}
-use lib.ListN.{getD, set, drop}
-use lib.Seq.{getD-drop}
+use lib.ListN.{length, getD, set, drop}
+use lib.Seq.{getD-set-same, getD-set-other, getD-drop}
 use Rattle.theory.specs.Sets.{Mem, everyone}
-use Rattle.theory.specs.Counts.{countIn, Distinct}
+use Rattle.theory.specs.Counts.{countIn, occ, Distinct}
 use Rattle.theory.specs.Walks.{Walk, edge, next}
 use Rattle.theory.specs.Theory.{Theory}
-use Rattle.theory.specs.Edges.{vertices, preds}
+use Rattle.theory.specs.Edges.{vertices, bodiesBelow, preds}
 use Rattle.theory.specs.Founded.{hasCycle}
 use Rattle.theory.specs.Rows.{succs}
 use Rattle.theory.specs.Prefix.{upto}
@@ -24,13 +25,14 @@ use Rattle.theory.specs.Drive.{Follows, Drives}
 use Rattle.theory.proofs.SetLaws.{clash, is-false}
 use Rattle.theory.proofs.EdgeLaws.{preds-low}
 use Rattle.theory.proofs.CycleLaws.{hasCycle-walk}
-use Rattle.theory.proofs.CountLaws.{count-out, count-all, count-below, pigeonhole}
+use Rattle.theory.proofs.CountLaws.{occ-none, pigeonhole}
 use Rattle.theory.proofs.RowLaws.{succs-preds, succs-low, preds-from}
 use Rattle.theory.proofs.PrefixLaws.{upto-length, upto-mem}
 use Rattle.theory.proofs.KahnLaws.{kahn-start, look-skip, look-add, kahn-begin, kahn-open, kahn-closed}
 use Rattle.theory.proofs.DriveLaws.{follows-all, drives-all}
 use Rattle.area.specs.declared.Bases.{Bases}
-use Rattle.cycles.specs.Held.{Shape, countOf, queued, Counting, Held, At}
+use Rattle.cycles.specs.Held.{Shape, countOf, queued, Started, degreeBy, Counting, Held, At}
+use Rattle.cycles.proofs.DegreeLaws.{below-fact, below-heads, degree-atom, degree-node, degree-all}
 use Rattle.cycles.proofs.VisitLaws.{shape-set, places, push-count, push-queue}
 
 -- a vertex of the shape is one of the theory
@@ -43,48 +45,86 @@ module _ {lim : ℕ} {th : Theory} {b : Bases} {w : List ℕ} (s : Shape lim th 
 
 -- ---- counting
 
-none-below : (l : List ℕ) → countIn (λ u. ltb u 0) l ≡ 0
-unfolding countIn
-none-below [] = refl
-none-below (x ∷ l) = count-out (λ u. ltb u 0) x l (le-ltb x 0 zero-le) ∙ none-below l
+-- a node's count is stored
+module _ {lim : ℕ} {th : Theory} {b : Bases} {w : List ℕ} {n : ℕ} (s : Started lim th b w n) (l : n < b .nodes) where
+  pub node-place : b .dependencies + (b .atoms + n) < length w
+  node-place = let k = s .shape .laid in let g = s .shape .long in omega arith
 
-pub count-start : {lim : ℕ} {th : Theory} {b : Bases} {w : List ℕ} → Shape lim th b w → ((v : ℕ) → v < b .atoms + b .nodes → countOf b w v ≡ 0) → Counting lim th b w 0 []
-unfolding countIn
-count-start {th = th} s zeros = record {
-  shape = s;
+  module _ {x : ℕ} (e : x ≡ length (preds th everyone (th .atoms + n))) where
+    degree-here : x ≡ length (preds th everyone (b .atoms + n))
+    degree-here = e ∙ ap (λ (a : ℕ). length (preds th everyone (a + n))) (sym (s .shape .atoms))
+
+    pub node-fits : x < lim
+    node-fits = let q = degree-here in omega (arith, s .shape .few (b .atoms + n) (omega arith))
+
+    pub node-counted : Started lim th b (set w (b .dependencies + (b .atoms + n)) x) (n + 1)
+    node-counted = record {
+      shape = shape-set (b .dependencies + (b .atoms + n)) x (let k = s .shape .laid in omega arith) (s .shape);
+      atoms = λ a k. getD-set-other w (b .dependencies + (b .atoms + n)) (b .dependencies + a) x 0 (λ q. omega arith) ∙ s .atoms a k;
+      nodes = λ m k. go m k (ℕ-discrete m n);
+    }
+      where
+        go : (m : ℕ) → m < n + 1 → Dec (m ≡ n) → getD (set w (b .dependencies + (b .atoms + n)) x) (b .dependencies + (b .atoms + m)) 0 ≡ length (preds th everyone (b .atoms + m))
+        go m k (yes q) = rw q (getD-set-same w (b .dependencies + (b .atoms + n)) x 0 node-place ∙ degree-here)
+        go m k (no q) = getD-set-other w (b .dependencies + (b .atoms + n)) (b .dependencies + (b .atoms + m)) x 0 (λ e. q (omega arith)) ∙ s .nodes m (omega arith)
+
+-- the nodes are counted: no producer is begun
+pub count-start : {lim : ℕ} {th : Theory} {b : Bases} {w : List ℕ} → Started lim th b w (b .nodes) → Counting lim th b w 0 []
+unfolding countIn bodiesBelow
+count-start {th = th} {b = b} {w = w} s = record {
+  shape = s .shape;
   low = λ v m. absurd (List·Memᴰ·not-nil m);
-  tally = λ v l. let z = zeros v l in let n = none-below (preds th everyone v) in omega arith;
+  begun = zero-le;
+  tally = λ v l. go v l (decLt v (th .atoms));
 }
+  where
+    go : (v : ℕ) → v < b .atoms + b .nodes → Dec (v < th .atoms) → countOf b w v + 0 ≡ degreeBy th 0 v
+    go v l (yes h) = let e = s .shape .atoms in omega (arith, s .atoms v (omega arith), degree-atom th 0 v h)
+    go v l (no h) =
+        let e = s .shape .atoms in
+        let q : b .atoms + (v - b .atoms) ≡ v = omega arith in
+        omega (arith, rw q at (s .nodes (v - b .atoms) (omega arith)), degree-node th 0 v (omega arith))
 
-module _ {lim : ℕ} {th : Theory} {b : Bases} {w : List ℕ} {u : ℕ} (t : Counting lim th b w u []) where
-  counting : At lim b true (record { th = th; n = u + 1 }) w 0 (succs th u)
+module _ {lim : ℕ} {th : Theory} {b : Bases} {w : List ℕ} {p : ℕ} (t : Counting lim th b w p []) (l : p < th .producers) where
+  pub fact-counted : th .body p ≡ 0 → Counting lim th b w (p + 1) []
   unfolding countIn
-  counting = record {
-    counts = λ e. record {
-      shape = t .shape;
-      low = λ v m. as-bases (t .shape) (succs-low th (t .shape .ok) u v m);
-      tally = λ v l.
-          rw add-one (let q = t .tally v l in let c = count-below u (preds th everyone v) in let o = succs-preds th (t .shape .ok) u v (as-theory (t .shape) l) in omega arith);
-    };
-    follows = λ e. clash refl e;
-  }
+  fact-counted z = record { shape = t .shape; low = t .low; begun = omega arith; tally = λ v i. go v (t .tally v i) (decLt v (th .atoms)) }
+    where
+      go : (v : ℕ) → countOf b w v + 0 ≡ degreeBy th p v → Dec (v < th .atoms) → countOf b w v + 0 ≡ degreeBy th (p + 1) v
+      go v e (yes h) = omega (arith, degree-atom th p v h, degree-atom th (p + 1) v h, rw (sym (add-one p)) at (below-fact th v p z))
+      go v e (no h) = omega (arith, degree-node th p v (omega arith), degree-node th (p + 1) v (omega arith))
 
-  pub row-next : Follows (At lim b true) w 0 (succs th u)
-  row-next = follows-all (At lim b true) counting
+  module _ (some : th .body p ≢ 0) where
+    counting : At lim b true (record { th = th; n = p + 1 }) w 0 (th .heads p)
+    unfolding countIn
+    counting = record {
+      counts = λ e. record {
+        shape = t .shape;
+        low = λ v m. let h = t .shape .ok .head-low p v l m in let a = t .shape .atoms in omega arith;
+        begun = omega arith;
+        tally = λ v i. go v (t .tally v i) (decLt v (th .atoms));
+      };
+      follows = λ e. clash refl e;
+    }
+      where
+        go : (v : ℕ) → countOf b w v + 0 ≡ degreeBy th p v → Dec (v < th .atoms) → countOf b w v + occ v (th .heads p) ≡ degreeBy th (p + 1) v
+        go v e (yes h) = omega (arith, degree-atom th p v h, degree-atom th (p + 1) v h, rw (sym (add-one p)) at (below-heads th v p some))
+        go v e (no h) =
+            omega (arith, degree-node th p v (omega arith), degree-node th (p + 1) v (omega arith), occ-none v (th .heads p) (λ m. h (t .shape .ok .head-low p v l m)))
 
-  pub row-counted : {w′ : List ℕ} {t′ : ℕ} → Drives (At lim b true) (b .states) w 0 (succs th u) w′ t′ [] → Counting lim th b w′ (u + 1) []
-  row-counted d = drives-all (At lim b true) counting d .counts refl
+    pub heads-next : Follows (At lim b true) w 0 (th .heads p)
+    heads-next = follows-all (At lim b true) counting
 
--- every row is counted: the counts are how many edges lead to a vertex
-pub counted-held : {lim : ℕ} {th : Theory} {b : Bases} {w : List ℕ} → Counting lim th b w (b .atoms + b .nodes) [] → Held lim th b w 0 0 0 []
+    pub heads-counted : {w′ : List ℕ} {t′ : ℕ} → Drives (At lim b true) (b .states) w 0 (th .heads p) w′ t′ [] → Counting lim th b w′ (p + 1) []
+    heads-counted d = drives-all (At lim b true) counting d .counts refl
+
+-- every producer is counted: the counts are how many edges lead to a vertex
+pub counted-held : {lim : ℕ} {th : Theory} {b : Bases} {w : List ℕ} → Counting lim th b w (th .producers) [] → Held lim th b w 0 0 0 []
 unfolding upto countIn
 counted-held {th = th} {b = b} {w = w} t = record {
   shape = t .shape;
   ahead = zero-le;
-  kahn = kahn-start (b .atoms + b .nodes) (preds th everyone) (λ v l.
-      let q = t .tally v l in
-      let c = count-all (λ u. ltb u (b .atoms + b .nodes)) (preds th everyone v) (λ x m. lt-ltb x (b .atoms + b .nodes) (as-bases (t .shape) (preds-from th (t .shape .ok) x v m))) in
-      omega arith);
+  kahn = kahn-start (b .atoms + b .nodes) (preds th everyone) (λ v l. omega (arith, t .tally v l, degree-all th v));
 }
 
 -- ---- looking for the first vertices

@@ -1,4 +1,4 @@
--- The tables are built and the counts cleared: the shape stands, and every count is 0.
+-- The tables are built and the atoms' counts cleared: the shape stands, and no edge is counted.
 use mathlib.Core.Path.{_≡_, sym, ap, _∙_, subst}
 use mathlib.Core.List.{List, [], _++_}
 use Prim.Native.Nat.{ℕ, _+_, _-_, _≤_, _<_}
@@ -15,8 +15,7 @@ use Rattle.area.proofs.PartLaws.{part-length, part-before, part-at, frame-less}
 use Rattle.adjacency.specs.declared.Table.the-variants.{AtomNodes, Parents, ByBody}
 use Rattle.adjacency.specs.Tables.{Tabled, Built}
 use Rattle.adjacency.proofs.TableLaws.{kept, wider}
-use Rattle.cycles.specs.Held.{Shape, Counting}
-use Rattle.cycles.proofs.LoopLaws.{count-start}
+use Rattle.cycles.specs.Held.{Shape, Started}
 
 as-rows : {n : ℕ} {w : List ℕ} {base rows rows′ : ℕ} {edges : List Edge} → rows ≡ rows′ → Tabled n w base rows edges → Tabled n w base rows′ edges
 as-rows {n} {w} {base} {rows} {rows′} {edges} e t = subst (λ (r : ℕ). Tabled n w base r edges) e t
@@ -24,29 +23,29 @@ as-rows {n} {w} {base} {rows} {rows′} {edges} e t = subst (λ (r : ℕ). Table
 module _ {ed : Edition} {ws : List ℕ} {lim words : ℕ} {b : Bases} {w₀ w₁ w₂ w₃ : List ℕ} (p : List ℕ)
     (acc : Accepted ed ws) (fits : 1 + ed .entries + ed .entries < lim) (base : Based ws (length w₀) b) (size : length w₀ ≡ words) (most : words ≤ lim)
     (s₁ : Built (theoryOf ws) b AtomNodes w₀ w₁) (s₂ : Built (theoryOf ws) b Parents w₁ w₂) (s₃ : Built (theoryOf ws) b ByBody w₂ w₃)
-    (cleared : p ≡ replicate (length (take (b .queue - b .dependencies) (drop (b .dependencies) w₃))) 0) where
+    (cleared : p ≡ replicate (length (take (b .dependencies + b .atoms - b .dependencies) (drop (b .dependencies) w₃))) 0) where
   w₄ : List ℕ
-  w₄ = take (b .dependencies) w₃ ++ (p ++ drop (b .queue - b .dependencies) (drop (b .dependencies) w₃))
+  w₄ = take (b .dependencies) w₃ ++ (p ++ drop (b .dependencies + b .atoms - b .dependencies) (drop (b .dependencies) w₃))
 
   size₃ : length w₃ ≡ length w₀
   size₃ = s₃ .size ∙ s₂ .size ∙ s₁ .size
 
-  start : b .dependencies ≤ b .queue
+  start : b .dependencies ≤ b .dependencies + b .atoms
   start = let l = base .laid in omega arith
 
-  end : b .queue ≤ length w₃
+  end : b .dependencies + b .atoms ≤ length w₃
   end = let l = base .laid in let e = base .ends in let s = size₃ in omega arith
 
-  part : length p ≡ b .queue - b .dependencies
-  part = ap length cleared ∙ length-replicate (length (take (b .queue - b .dependencies) (drop (b .dependencies) w₃))) 0 ∙ simp (length-take, length-drop) (let s = start in let e = end in omega arith)
+  part : length p ≡ b .dependencies + b .atoms - b .dependencies
+  part = ap length cleared ∙ length-replicate (length (take (b .dependencies + b .atoms - b .dependencies) (drop (b .dependencies) w₃))) 0 ∙ simp (length-take, length-drop) (let s = start in let e = end in omega arith)
 
   size₄ : length w₄ ≡ length w₃
   unfolding w₄
-  size₄ = part-length (b .dependencies) (b .queue) w₃ p start end part
+  size₄ = part-length (b .dependencies) (b .dependencies + b .atoms) w₃ p start end part
 
   frame : take (b .states) w₄ ≡ take (b .states) w₃
   unfolding w₄
-  frame = frame-less (b .dependencies) w₃ w₄ (part-before (b .dependencies) (b .queue) w₃ p start end part) (b .states) (let l = base .laid in omega arith)
+  frame = frame-less (b .dependencies) w₃ w₄ (part-before (b .dependencies) (b .dependencies + b .atoms) w₃ p start end part) (b .states) (let l = base .laid in omega arith)
 
   shape : Shape lim (theoryOf ws) b w₄
   unfolding atomNodes parents byBody
@@ -71,13 +70,13 @@ module _ {ed : Edition} {ws : List ℕ} {lim words : ℕ} {b : Bases} {w₀ w₁
         by-body = kept (as-rows en (s₃ .table)) w₄ frame size₄;
       }
 
-  pub set-up-counting : Counting lim (theoryOf ws) b (take (b .dependencies) w₃ ++ (p ++ drop (b .queue - b .dependencies) (drop (b .dependencies) w₃))) 0 []
+  pub set-up-started : Started lim (theoryOf ws) b (take (b .dependencies) w₃ ++ (p ++ drop (b .dependencies + b .atoms - b .dependencies) (drop (b .dependencies) w₃))) 0
   unfolding w₄
-  set-up-counting = count-start shape zero
+  set-up-started = record { shape = shape; atoms = zero; nodes = λ m h. absurd (omega arith) }
     where
-      zero : (v : ℕ) → v < b .atoms + b .nodes → getD w₄ (b .dependencies + v) 0 ≡ 0
+      zero : (v : ℕ) → v < b .atoms → getD w₄ (b .dependencies + v) 0 ≡ 0
       zero v h =
           let l = base .laid in let k = part in
-          part-at (b .dependencies) (b .queue) w₃ p start end part v (omega arith) ∙ ap (λ (l : List ℕ). getD l v 0) cleared
-          ∙ getD-replicate (length (take (b .queue - b .dependencies) (drop (b .dependencies) w₃))) v 0 0
-          (let e : length p ≡ length (take (b .queue - b .dependencies) (drop (b .dependencies) w₃)) = ap length cleared ∙ length-replicate (length (take (b .queue - b .dependencies) (drop (b .dependencies) w₃))) 0 in omega arith)
+          part-at (b .dependencies) (b .dependencies + b .atoms) w₃ p start end part v (omega arith) ∙ ap (λ (l : List ℕ). getD l v 0) cleared
+          ∙ getD-replicate (length (take (b .dependencies + b .atoms - b .dependencies) (drop (b .dependencies) w₃))) v 0 0
+          (let e : length p ≡ length (take (b .dependencies + b .atoms - b .dependencies) (drop (b .dependencies) w₃)) = ap length cleared ∙ length-replicate (length (take (b .dependencies + b .atoms - b .dependencies) (drop (b .dependencies) w₃))) 0 in omega arith)

@@ -8,23 +8,23 @@ use Prim.Native.Nat.{ℕ, suc, _+_, _≤_, _<_}
 use native.Mathlib.Omega.{arith}
 use native.Mathlib.Numerals.{add-one}
 use native.Mathlib.Decide.{ℕ-discrete}
-use lib.Dec.{ltb}
 use lib.ListN.{length, getD, set, take, drop, length-set, length-drop}
 use lib.Seq.{getD-set-same, getD-set-other, take-set-le, drop-set-lt, drop-set-add}
 use Rattle.theory.specs.Sets.{everyone}
-use Rattle.theory.specs.Counts.{countIn, occ}
+use Rattle.theory.specs.Counts.{occ}
 use Rattle.theory.specs.Theory.{Theory}
 use Rattle.theory.specs.Edges.{preds}
 use Rattle.theory.specs.Prefix.{upto}
 use Rattle.theory.specs.Drive.{Follows, Drives}
 use Rattle.theory.proofs.SetLaws.{bool-cases, clash}
-use Rattle.theory.proofs.CountLaws.{occ-same, occ-other, count-le}
+use Rattle.theory.proofs.CountLaws.{occ-same, occ-other}
 use Rattle.theory.proofs.PrefixLaws.{upto-length, upto-past, upto-push}
 use Rattle.theory.proofs.KahnLaws.{follow-low, follow-waits, follow-room, follow-count, follow-release}
 use Rattle.area.specs.declared.Bases.{Bases}
 use Rattle.area.specs.Layout.{Laid}
 use Rattle.adjacency.proofs.TableLaws.{kept}
-use Rattle.cycles.specs.Held.{Shape, countOf, queued, Counting, Held, Ctx, At}
+use Rattle.cycles.specs.Held.{Shape, countOf, queued, degreeBy, Counting, Held, Ctx, At}
+use Rattle.cycles.proofs.DegreeLaws.{degree-few}
 
 pub shape-frame : {lim : ℕ} {th : Theory} {b : Bases} {w : List ℕ} (w′ : List ℕ) → take (b .states) w′ ≡ take (b .states) w → length w′ ≡ length w → Shape lim th b w → Shape lim th b w′
 shape-frame {b = b} w′ e k s = record {
@@ -137,7 +137,7 @@ pub count-fits : {lim : ℕ} {m : Bool} {b : Bases} {w : List ℕ} {tail v : ℕ
 count-fits {v = v} e f =
     let h = f .held .counts e in
     let l = h .low v (List·Memᴰ·head refl) in
-    omega (arith, h .shape .few v l, h .tally v l, occ-same v (f .more), count-le (λ u. ltb u (f .ctx .n)) (preds (f .ctx .th) everyone v))
+    omega (arith, h .shape .few v l, h .tally v l, occ-same v (f .more), degree-few (f .ctx .th) (f .ctx .n) v (h .begun))
 
 pub follow-needs : {lim : ℕ} {m : Bool} {b : Bases} {w : List ℕ} {tail v : ℕ} → m ≡ false → Follows (At lim b m) w tail (v ∷ []) → (0 < countOf b w v) × (tail < b .atoms + b .nodes)
 follow-needs e f = let h = f .held .follows e in (waits h, room h)
@@ -157,11 +157,12 @@ module _ {lim : ℕ} {m : Bool} {b : Bases} {w : List ℕ} {tail v : ℕ} (f : F
       counts c more h = record {
         shape = shape-set (b .dependencies + v) _ past (h .shape);
         low = λ x m. h .low x (List·Memᴰ·tail m);
+        begun = h .begun;
         tally = λ x l. tally x l (ℕ-discrete x v);
       }
         where
           tally : (x : ℕ) → x < b .atoms + b .nodes → Dec (x ≡ v)
-              → countOf b (set w (b .dependencies + v) (countOf b w v + 1)) x + occ x more ≡ countIn (λ u. ltb u (c .n)) (preds (c .th) everyone x)
+              → countOf b (set w (b .dependencies + v) (countOf b w v + 1)) x + occ x more ≡ degreeBy (c .th) (c .n) x
           tally x l (yes q) =
               let r = at-places f in let k = r .laid in let g = r .long in
               let t = h .tally v (h .low v (List·Memᴰ·head refl)) in

@@ -1,14 +1,14 @@
 -- What the work area holds while the loop test runs. lim is the number of values of a word.
 use mathlib.Core.Path.{_≡_}
-use mathlib.Core.Bool.{Bool, true, false}
+use mathlib.Core.Bool.{Bool, true, false, cond}
 use mathlib.Core.List.{List}
 use Prim.Native.Nat.{ℕ, _+_, _≤_, _<_}
 use lib.Dec.{ltb}
 use lib.ListN.{length, getD, drop}
 use Rattle.theory.specs.Sets.{Mem, everyone}
-use Rattle.theory.specs.Counts.{countIn, occ}
+use Rattle.theory.specs.Counts.{occ}
 use Rattle.theory.specs.Theory.{Theory, WellFormed}
-use Rattle.theory.specs.Edges.{preds}
+use Rattle.theory.specs.Edges.{bodiesBelow, preds}
 use Rattle.theory.specs.Rows.{atomNodes, parents, byBody}
 use Rattle.theory.specs.Prefix.{upto}
 use Rattle.theory.specs.Kahn.{Kahn}
@@ -36,11 +36,22 @@ countOf b w v = getD w (b .dependencies + v) 0
 abbrev pub queued : Bases → List ℕ → ℕ → List ℕ
 queued b w n = upto n (drop (b .queue) w)
 
--- the rows of n vertices are counted, but for todo
-pub record Counting (lim : ℕ) (th : Theory) (b : Bases) (w : List ℕ) (n : ℕ) (todo : List ℕ) : Type 0 where
+-- no edge to an atom is counted yet, and every edge to the first n nodes is
+pub record Started (lim : ℕ) (th : Theory) (b : Bases) (w : List ℕ) (n : ℕ) : Type 0 where
+  pub shape : Shape lim th b w
+  pub atoms : (a : ℕ) → a < b .atoms → countOf b w a ≡ 0
+  pub nodes : (m : ℕ) → m < n → countOf b w (b .atoms + m) ≡ length (preds th everyone (b .atoms + m))
+
+-- how many edges lead to v: to a node all of them, and to an atom those of the first p producers
+abbrev pub degreeBy : Theory → ℕ → ℕ → ℕ
+degreeBy th p v = cond (ltb v (th .atoms)) (length (bodiesBelow th v p)) (length (preds th everyone v))
+
+-- those are counted, but for todo
+pub record Counting (lim : ℕ) (th : Theory) (b : Bases) (w : List ℕ) (p : ℕ) (todo : List ℕ) : Type 0 where
   pub shape : Shape lim th b w
   pub low : (v : ℕ) → Mem v todo → v < b .atoms + b .nodes
-  pub tally : (v : ℕ) → v < b .atoms + b .nodes → countOf b w v + occ v todo ≡ countIn (λ u. ltb u n) (preds th everyone v)
+  pub begun : p ≤ th .producers
+  pub tally : (v : ℕ) → v < b .atoms + b .nodes → countOf b w v + occ v todo ≡ degreeBy th p v
 
 -- the vertices below k have been looked at; tail are on the queue, and the rows of the first head of them are followed, but for todo
 pub record Held (lim : ℕ) (th : Theory) (b : Bases) (w : List ℕ) (k head tail : ℕ) (todo : List ℕ) : Type 0 where
@@ -48,7 +59,7 @@ pub record Held (lim : ℕ) (th : Theory) (b : Bases) (w : List ℕ) (k head tai
   pub ahead : head ≤ tail
   pub kahn : Kahn (b .atoms + b .nodes) (preds th everyone) k (queued b w tail) (queued b w head) todo (countOf b w)
 
--- n: how many rows are begun
+-- n: how many producers or rows are begun
 pub record Ctx : Type 0 where
   pub th : Theory
   pub n : ℕ

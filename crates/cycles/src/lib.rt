@@ -1,21 +1,22 @@
 // The loop test: whether there is a closed walk over all atoms and all nodes, by counting how many entries each vertex waits for
 // (Kahn 1962). Atom a is vertex a, and node n is vertex atoms + n.
 ghost use mathlib.Core.Path.{_≡_};
-ghost use mathlib.Core.Bool.{true};
+ghost use mathlib.Core.Bool.{true, false};
 ghost use mathlib.Core.Logic.{_↔_};
 ghost use mathlib.Core.List.{[], _∷_, map};
 ghost use Prim.Native.Nat.{ℕ, _+_, _<_, _≤_};
 ghost use lib.ListN.{length};
 ghost use lib.Seq.{slice};
-ghost use Rattle.theory.specs.Sets.{Mem};
+ghost use Rattle.theory.specs.Sets.{Mem, everyone};
 ghost use Rattle.theory.specs.Theory.{Theory};
 ghost use Rattle.theory.specs.Words.{theoryOf};
+ghost use Rattle.theory.specs.Edges.{preds};
 ghost use Rattle.theory.specs.Accepted.{Accepted, edition1};
 ghost use Rattle.theory.specs.Founded.{hasCycle};
 ghost use Rattle.theory.specs.Rows.{flatMap, succs};
 ghost use Rattle.theory.specs.Drive.{Follows, Drives};
 ghost use Rattle.area.specs.Layout.{Based};
-ghost use Rattle.cycles.specs.Held.{Shape, Held, Counting, At};
+ghost use Rattle.cycles.specs.Held.{Shape, Held, Started, Counting, At};
 ghost use Rattle.cycles.specs.Outcome.{loops, outcomeOf, outcome, workAfter, ClosedWalk};
 use adjacency::Table;
 use area::Bases;
@@ -38,22 +39,15 @@ fn visit(work: &mut [u16], b: Bases, counting: bool, v: usize, tail: usize) -> u
 }
 
 // The nodes from one place of the work area to another, an entry each.
-fn visit_nodes(
-    work: &mut [u16],
-    b: Bases,
-    counting: bool,
-    from: usize,
-    to: usize,
-    tail: usize,
-) -> usize
+fn visit_nodes(work: &mut [u16], b: Bases, from: usize, to: usize, tail: usize) -> usize
     requires { ⌜ (from ≤ to) × (to ≤ b .states) ⌝ }
-    requires { ⌜ Follows (At 65536 b counting) (now work) tail (map (λ n. b .atoms + n) (slice from to (now work))) ⌝ }
-    ensures { λ t. ⌜ Drives (At 65536 b counting) (b .states) (now (work .entry)) tail (map (λ n. b .atoms + n) (slice from to (now (work .entry)))) (now (work .exit)) t [] ⌝ }
+    requires { ⌜ Follows (At 65536 b false) (now work) tail (map (λ n. b .atoms + n) (slice from to (now work))) ⌝ }
+    ensures { λ t. ⌜ Drives (At 65536 b false) (b .states) (now (work .entry)) tail (map (λ n. b .atoms + n) (slice from to (now (work .entry)))) (now (work .exit)) t [] ⌝ }
 {
     let mut t = tail;
     let mut i = from;
     while i < to {
-        t = visit(work, b, counting, b.atoms + graph::at(work, i), t);
+        t = visit(work, b, false, b.atoms + graph::at(work, i), t);
         i += 1;
     }
     t
@@ -87,57 +81,85 @@ fn visit_producers(
     graph: &[u16],
     work: &mut [u16],
     b: Bases,
-    counting: bool,
     from: usize,
     to: usize,
     tail: usize,
 ) -> usize
     requires { ⌜ Accepted edition1 (now graph) × (from ≤ to) × (to ≤ b .states) × ((p : ℕ) → Mem p (slice from to (now work)) → p < theoryOf (now graph) .producers) ⌝ }
-    requires { ⌜ Follows (At 65536 b counting) (now work) tail (flatMap (theoryOf (now graph) .heads) (slice from to (now work))) ⌝ }
-    ensures { λ t. ⌜ Drives (At 65536 b counting) (b .states) (now (work .entry)) tail (flatMap (theoryOf (now (graph .entry)) .heads) (slice from to (now (work .entry)))) (now (work .exit)) t [] ⌝ }
+    requires { ⌜ Follows (At 65536 b false) (now work) tail (flatMap (theoryOf (now graph) .heads) (slice from to (now work))) ⌝ }
+    ensures { λ t. ⌜ Drives (At 65536 b false) (b .states) (now (work .entry)) tail (flatMap (theoryOf (now (graph .entry)) .heads) (slice from to (now (work .entry)))) (now (work .exit)) t [] ⌝ }
 {
     let mut t = tail;
     let mut i = from;
     while i < to {
-        t = visit_heads(graph, work, b, counting, graph::at(work, i), t);
+        t = visit_heads(graph, work, b, false, graph::at(work, i), t);
         i += 1;
     }
     t
 }
 
 // Every entry of the row of vertex v.
-fn visit_vertex(
-    graph: &[u16],
-    work: &mut [u16],
-    b: Bases,
-    counting: bool,
-    v: usize,
-    tail: usize,
-) -> usize
+fn visit_vertex(graph: &[u16], work: &mut [u16], b: Bases, v: usize, tail: usize) -> usize
     requires { ⌜ Accepted edition1 (now graph) × (v < b .atoms + b .nodes) × Shape 65536 (theoryOf (now graph)) b (now work) ⌝ }
-    requires { ⌜ Follows (At 65536 b counting) (now work) tail (succs (theoryOf (now graph)) v) ⌝ }
-    ensures { λ t. ⌜ Drives (At 65536 b counting) (b .states) (now (work .entry)) tail (succs (theoryOf (now (graph .entry))) v) (now (work .exit)) t [] ⌝ }
+    requires { ⌜ Follows (At 65536 b false) (now work) tail (succs (theoryOf (now graph)) v) ⌝ }
+    ensures { λ t. ⌜ Drives (At 65536 b false) (b .states) (now (work .entry)) tail (succs (theoryOf (now (graph .entry))) v) (now (work .exit)) t [] ⌝ }
 {
     if v < b.atoms {
         let nodes = adjacency::row_at(work, b.atom_nodes, b.atoms, v);
-        return visit_nodes(work, b, counting, nodes.from, nodes.to, tail);
+        return visit_nodes(work, b, nodes.from, nodes.to, tail);
     }
     let m = v - b.atoms;
     let parents = adjacency::row_at(work, b.parents, b.nodes, m);
-    let t = visit_nodes(work, b, counting, parents.from, parents.to, tail);
+    let t = visit_nodes(work, b, parents.from, parents.to, tail);
     let producers = adjacency::row_at(work, b.by_body, b.nodes, m);
-    visit_producers(graph, work, b, counting, producers.from, producers.to, t)
+    visit_producers(graph, work, b, producers.from, producers.to, t)
+}
+
+// How many edges lead to node n: one from its operand, or one from each leaf.
+fn degree(graph: &[u16], n: usize) -> usize
+    requires { ⌜ Accepted edition1 (now graph) × (n < theoryOf (now graph) .nodes) ⌝ }
+    ensures { λ r. ⌜ r ≡ length (preds (theoryOf (now (graph .entry))) everyone (theoryOf (now (graph .entry)) .atoms + n)) ⌝ }
+{
+    if graph::kind(graph, n) == 1 {
+        return 1;
+    }
+    graph::entries(graph, graph::first_leaf(graph, n))
+}
+
+// How many entries each node waits for.
+fn count_nodes(graph: &[u16], work: &mut [u16], b: Bases)
+    requires { ⌜ Accepted edition1 (now graph) × Started 65536 (theoryOf (now graph)) b (now work) 0 ⌝ }
+    ensures { λ _. ⌜ Started 65536 (theoryOf (now (graph .entry))) b (now (work .exit)) (b .nodes) ⌝ }
+{
+    let mut n: usize = 0;
+    while n < b.nodes {
+        area::put(work, b.dependencies + (b.atoms + n), degree(graph, n));
+        n += 1;
+    }
+}
+
+// The heads of producer p, one more for each; a fact has no edge to them.
+fn count_heads(graph: &[u16], work: &mut [u16], b: Bases, p: usize)
+    requires { ⌜ Accepted edition1 (now graph) × (p < theoryOf (now graph) .producers) × Counting 65536 (theoryOf (now graph)) b (now work) p [] ⌝ }
+    ensures { λ _. ⌜ Counting 65536 (theoryOf (now (graph .entry))) b (now (work .exit)) (p + 1) [] ⌝ }
+{
+    if graph::body(graph, p) == 0 {
+        return;
+    }
+    visit_heads(graph, work, b, true, p, 0);
 }
 
 // How many entries each vertex waits for.
 fn count_all(graph: &[u16], work: &mut [u16], b: Bases)
-    requires { ⌜ Accepted edition1 (now graph) × Counting 65536 (theoryOf (now graph)) b (now work) 0 [] ⌝ }
-    ensures { λ _. ⌜ Counting 65536 (theoryOf (now (graph .entry))) b (now (work .exit)) (b .atoms + b .nodes) [] ⌝ }
+    requires { ⌜ Accepted edition1 (now graph) × Started 65536 (theoryOf (now graph)) b (now work) 0 ⌝ }
+    ensures { λ _. ⌜ Counting 65536 (theoryOf (now (graph .entry))) b (now (work .exit)) (theoryOf (now (graph .entry)) .producers) [] ⌝ }
 {
-    let mut u: usize = 0;
-    while u < b.atoms + b.nodes {
-        visit_vertex(graph, work, b, true, u, 0);
-        u += 1;
+    count_nodes(graph, work, b);
+    let end = graph::producers(graph);
+    let mut p: usize = 0;
+    while p < end {
+        count_heads(graph, work, b, p);
+        p += 1;
     }
 }
 
@@ -166,22 +188,22 @@ fn follow_all(graph: &[u16], work: &mut [u16], b: Bases, first: usize) -> usize
     let mut head: usize = 0;
     let mut tail = first;
     while head < tail {
-        tail = visit_vertex(graph, work, b, false, graph::at(work, b.queue + head), tail);
+        tail = visit_vertex(graph, work, b, graph::at(work, b.queue + head), tail);
         head += 1;
     }
     tail
 }
 
-// The tables that are read, and counts of zero.
+// The tables that are read, and a count of zero for each atom.
 fn set_up(graph: &[u16], work: &mut [u16], b: Bases)
     requires { ⌜ Accepted edition1 (now graph) × Based (now graph) (length (now work)) b × (length (now work) ≡ 32768) ⌝ }
-    ensures { λ _. ⌜ Counting 65536 (theoryOf (now (graph .entry))) b (now (work .exit)) 0 [] ⌝ }
+    ensures { λ _. ⌜ Started 65536 (theoryOf (now (graph .entry))) b (now (work .exit)) 0 ⌝ }
 {
     adjacency::build_in(graph, work, b, Table::AtomNodes);
     adjacency::build_in(graph, work, b, Table::Parents);
     adjacency::build_in(graph, work, b, Table::ByBody);
     let from = b.dependencies;
-    let to = b.queue;
+    let to = from + b.atoms;
     area::clear(&mut work[from..to]);
 }
 

@@ -7,8 +7,8 @@ ghost use mathlib.Core.Bool.{false};
 ghost use Prim.Native.Nat.{_+_, _<_, _≤_};
 ghost use lib.ListN.{length, getD};
 ghost use Rattle.theory.specs.Theory.{joins};
-ghost use Rattle.theory.specs.Words.{kindOf, nodeAt, producerAt, linkAt, valueOf, nextOf};
-ghost use Rattle.theory.specs.Accepted.{edition1};
+ghost use Rattle.theory.specs.Words.{kindOf, nodeAt, producerAt, linkAt, valueOf, nextOf, chain, Ending};
+ghost use Rattle.theory.specs.Accepted.{Accepted, edition1};
 ghost use Rattle.graph.specs.Kinds.{rowOf, takesOperand, waitsForOne, waitsForAll, startsTrue};
 ghost use Rattle.graph.specs.Layout.{NodeIn, ProducerIn, LinkIn};
 ghost use Rattle.graph.specs.Refusals.{graphAnswer, answerOf};
@@ -219,6 +219,20 @@ pub fn next(graph: &[u16], l: usize) -> usize
     ensures { λ r. ⌜ r ≡ nextOf (now (graph .entry)) l ⌝ }
 {
     chain_link(chain_next(chain_of(graph, l)))
+}
+
+// How many entries a chain has, repeats counted.
+pub fn entries(graph: &[u16], first: usize) -> usize
+    requires { ⌜ Accepted edition1 (now graph) × Ending (now graph) first ⌝ }
+    ensures { λ r. ⌜ r ≡ length (chain (now (graph .entry)) first) ⌝ }
+{
+    let mut n: usize = 0;
+    let mut l = first;
+    while l > 0 {
+        n += 1;
+        l = next(graph, l);
+    }
+    n
 }
 
 // What the check answers. specs/Refusals has the number and place of each.

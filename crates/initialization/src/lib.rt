@@ -8,7 +8,7 @@ ghost use lib.ListN.{length, set};
 ghost use Rattle.theory.specs.Sets.{Set, Is};
 ghost use Rattle.theory.specs.Theory.{Atom};
 ghost use Rattle.theory.specs.Founded.{cyclic, cyclicCone};
-ghost use Rattle.theory.specs.Words.{bitAt, chain, Ending, theoryOf};
+ghost use Rattle.theory.specs.Words.{bitAt, theoryOf};
 ghost use Rattle.theory.specs.Rows.{flatMap};
 ghost use Rattle.theory.specs.Accepted.{Accepted, edition1};
 ghost use Rattle.theory.specs.Drive.{Follows, Drives};
@@ -107,20 +107,6 @@ fn activate_facts(graph: &[u16], work: &mut [u16], b: Bases, facts: usize) -> us
     t
 }
 
-// The entries of a leaf chain, repeats counted.
-fn leaf_count(graph: &[u16], first: usize) -> usize
-    requires { ⌜ Accepted edition1 (now graph) × Ending (now graph) first × (length (chain (now graph) first) < 65536) ⌝ }
-    ensures { λ r. ⌜ r ≡ length (chain (now (graph .entry)) first) ⌝ }
-{
-    let mut n: usize = 0;
-    let mut link = first;
-    while link > 0 {
-        n += 1;
-        link = graph::next(graph, link);
-    }
-    n
-}
-
 // An uncut Atom of an atom that is not cyclic: true unless its atom is cut.
 fn boundary(atom_never: &[u64], a: usize) -> Initial
     ensures { λ r. ⌜ ((n : ℕ) → r ≡ initialOf (kindMode Atom false (bitAt (now («atom_never» .entry)) a)) n) ⌝ }
@@ -169,7 +155,7 @@ fn read(
         return Initial::Awaiting(1);
     }
     if graph::waits_for_all(kind) {
-        return Initial::Awaiting(leaf_count(graph, graph::first_leaf(graph, n)));
+        return Initial::Awaiting(graph::entries(graph, graph::first_leaf(graph, n)));
     }
     Initial::Inactive
 }

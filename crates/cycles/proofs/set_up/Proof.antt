@@ -1,5 +1,5 @@
 use native.Mathlib.Omega.{arith}
-use Rattle.cycles.proofs.SetupLaws.{set-up-counting}
+use Rattle.cycles.proofs.SetupLaws.{set-up-started}
 use borrow.Author.Needs.{needs}
 use Rattle.cycles.proofs.set_up.Statement.{statement}
 use Rattle.cycles.proofs.set_up.Tie as tie
@@ -25,28 +25,34 @@ build-in-requires-3 c κs =
     let c-pre = p2 .pre in
     (c-pre .0, rw (c-build-in2 .ensures .size, c-build-in .ensures .size) (c-pre .1))
 
+add-to : tie.Need-add-to
+add-to c =
+    let p1 = c .before .before .before .before .before .before .before .before .before .before .before .before .before .before .before in
+    let c-pre = p1 .pre in
+    let b = c-pre .1 in let l = b .laid in let e = b .ends in omega arith
+
 mul-clear : tie.Need-mul-clear
 mul-clear c =
-    let p1 = c .before .before .before .before .before .before .before .before .before .before .before .before .before .before in
+    let p1 = c .before .before .before .before .before .before .before .before .before .before .before .before .before .before .before in
     let c-pre = p1 .pre in
     let b = c-pre .1 in let l = b .laid in let e = b .ends in omega arith
 
 sub-clear : tie.Need-sub-clear
 sub-clear c =
-    let p1 = c .before .before .before .before .before .before .before .before .before .before .before .before .before .before in
+    let p1 = c .before .before .before .before .before .before .before .before .before .before .before .before .before .before .before in
     let c-pre = p1 .pre in
     let b = c-pre .1 in let l = b .laid in omega arith
 
 part-clear-start : tie.Need-part-clear-start
 part-clear-start c =
-    let p1 = c .before .before .before .before .before .before .before .before .before .before .before .before .before .before in
+    let p1 = c .before .before .before .before .before .before .before .before .before .before .before .before .before .before .before in
     let c-pre = p1 .pre in
     let b = c-pre .1 in let l = b .laid in omega arith
 
 part-clear-end : tie.Need-part-clear-end
 part-clear-end c =
-    let c-build-in3 = c .before .before .build-in3 in
-    let p1 = c .before .before .before .before .before .before in
+    let c-build-in3 = c .before .before .before .build-in3 in
+    let p1 = c .before .before .before .before .before .before .before in
     let c-build-in2 = p1 .build-in2 in
     let p2 = p1 .before .before .before .before in
     let c-build-in = p2 .build-in in
@@ -63,7 +69,7 @@ same-length c = search needs
 returns : tie.Need-returns
 returns c =
     let c-clear = c .before .before .clear in
-    let p1 = c .before .before .before .before .before .before in
+    let p1 = c .before .before .before .before .before .before .before in
     let c-build-in3 = p1 .build-in3 in
     let p2 = p1 .before .before .before .before in
     let c-build-in2 = p2 .build-in2 in
@@ -71,7 +77,7 @@ returns c =
     let c-build-in = p3 .build-in in
     let p4 = p3 .before .before .before .before in
     let c-pre = p4 .pre in
-    set-up-counting (c-clear .last .0) (c-pre .0) (omega arith) (c-pre .1) (c-pre .2) (omega arith) (c-build-in .ensures) (c-build-in2 .ensures) (c-build-in3 .ensures) (c-clear .ensures)
+    set-up-started (c-clear .last .0) (c-pre .0) (omega arith) (c-pre .1) (c-pre .2) (omega arith) (c-build-in .ensures) (c-build-in2 .ensures) (c-build-in3 .ensures) (c-clear .ensures)
 
 pub set-up-spec : {M : Type 1} → statement M
 set-up-spec =
@@ -80,6 +86,7 @@ set-up-spec =
     build-in-requires
     build-in-requires-2
     build-in-requires-3
+    add-to
     mul-clear
     sub-clear
     part-clear-start

@@ -1,3 +1,4 @@
+use mathlib.Core.Bool.{false}
 use mathlib.Core.Path.{refl}
 use mathlib.Core.List.{[], _∷_, map}
 use Prim.Native.Nat.{_≤_, _-_, _+_}
@@ -13,16 +14,16 @@ use Rattle.cycles.proofs.visit_nodes.Statement.{statement}
 use Rattle.cycles.proofs.visit_nodes.Tie as tie
 
 abbrev Inv-loop : tie.InvT-loop
-Inv-loop work₀ b counting from to tail t₀ i₀ work t i = (i ≤ to) × Drives (At 65536 b counting) (b .states) work₀ tail (map (λ n. b .atoms + n) (slice from to work₀)) work t (map (λ n. b .atoms + n) (slice i to work₀))
+Inv-loop work₀ b from to tail t₀ i₀ work t i = (i ≤ to) × Drives (At 65536 b false) (b .states) work₀ tail (map (λ n. b .atoms + n) (slice from to work₀)) work t (map (λ n. b .atoms + n) (slice i to work₀))
 
 abbrev μ-loop : tie.MeasureT-loop
-μ-loop work₀ b counting from to tail t₀ i₀ work t i = to - i
+μ-loop work₀ b from to tail t₀ i₀ work t i = to - i
 
 loop-holds : tie.Need-loop-holds Inv-loop μ-loop
 loop-holds c =
     let c-pre = c .before .pre in
     let c-args = c .before .args in
-    (c-pre .0 .0, drives-none (At 65536 (c-args .b) (c-args .counting)))
+    (c-pre .0 .0, drives-none (At 65536 (c-args .b) false))
 
 at-requires : tie.Need-at-requires Inv-loop μ-loop
 at-requires c κs =

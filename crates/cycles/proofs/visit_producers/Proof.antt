@@ -1,3 +1,4 @@
+use mathlib.Core.Bool.{false}
 use mathlib.Core.Path.{refl}
 use mathlib.Core.List.{List·Memᴰ·head, List·Memᴰ·tail}
 use Prim.Native.Nat.{ℕ, _≤_, _<_, _-_}
@@ -16,16 +17,16 @@ use Rattle.cycles.proofs.visit_producers.Statement.{statement}
 use Rattle.cycles.proofs.visit_producers.Tie as tie
 
 abbrev Inv-loop : tie.InvT-loop
-Inv-loop graph work₀ b counting from to tail t₀ i₀ work t i = (i ≤ to) × ((p : ℕ) → Mem p (slice i to work₀) → p < theoryOf graph .producers) × Drives (At 65536 b counting) (b .states) work₀ tail (flatMap (theoryOf graph .heads) (slice from to work₀)) work t (flatMap (theoryOf graph .heads) (slice i to work₀))
+Inv-loop graph work₀ b from to tail t₀ i₀ work t i = (i ≤ to) × ((p : ℕ) → Mem p (slice i to work₀) → p < theoryOf graph .producers) × Drives (At 65536 b false) (b .states) work₀ tail (flatMap (theoryOf graph .heads) (slice from to work₀)) work t (flatMap (theoryOf graph .heads) (slice i to work₀))
 
 abbrev μ-loop : tie.MeasureT-loop
-μ-loop graph work₀ b counting from to tail t₀ i₀ work t i = to - i
+μ-loop graph work₀ b from to tail t₀ i₀ work t i = to - i
 
 loop-holds : tie.Need-loop-holds Inv-loop μ-loop
 loop-holds c =
     let c-pre = c .before .before .pre in
     let c-args = c .before .before .args in
-    (c-pre .0 .1, c-pre .0 .3, drives-none (At 65536 (c-args .b) (c-args .counting)))
+    (c-pre .0 .1, c-pre .0 .3, drives-none (At 65536 (c-args .b) false))
 
 at-requires : tie.Need-at-requires Inv-loop μ-loop
 unfolding flatMap

@@ -5,7 +5,7 @@ use lib.ListN.{length}
 use Rattle.theory.specs.Words.{bitAt, theoryOf}
 use Rattle.theory.specs.Founded.{cyclic}
 use Rattle.initialization.specs.Start.{initialOf}
-use Rattle.initialization.proofs.InitialLaws.{initial-cut, initial-uncut, cone-node, kind-in, operand-in, leaves-few}
+use Rattle.initialization.proofs.InitialLaws.{initial-cut, initial-uncut, cone-node, kind-in, operand-in}
 use borrow.Author.Needs.{needs}
 use Rattle.initialization.proofs.read.Statement.{statement}
 use Rattle.initialization.proofs.read.Tie as tie
@@ -18,7 +18,7 @@ use Rattle.graph.proofs.starts_true.Reads as starts-true-reads
 use Rattle.graph.proofs.takes_operand.Reads as takes-operand-reads
 use Rattle.graph.proofs.waits_for_all.Reads as waits-for-all-reads
 use Rattle.graph.proofs.waits_for_one.Reads as waits-for-one-reads
-use Rattle.initialization.proofs.leaf_count.Reads as leaf-count-reads
+use Rattle.graph.proofs.entries.Reads as entries-reads
 use Rattle.initialization.proofs.read_atom.Reads as read-atom-reads
 use Rattle.mask.proofs.bit.Reads as bit-reads
 
@@ -156,19 +156,19 @@ first-leaf-requires c κs =
     let c-args = p1 .args in
     cone-node (c-pre .0 .0) (c-args .n) (c-pre .1)
 
-leaf-count-requires : tie.Need-leaf-count-requires
+entries-requires : tie.Need-entries-requires
 unfolding theoryOf
-leaf-count-requires c κs =
+entries-requires c κs =
     let c-first-leaf = c .first-leaf in
     let p1 = c .before .before .before .before .before .before .before .before .before .before .before .before .before .before .before .before in
     let c-pre = p1 .pre in
     let c-args = p1 .args in
-    let k = leaves-few (c-pre .0 .0) (c-args .n) (c-pre .1) in (c-pre .0 .0, rw (c-first-leaf .ensures) (c-pre .0 .0 .leaf-chain (c-args .n) (cone-node (c-pre .0 .0) (c-args .n) (c-pre .1) .below)), rw (c-first-leaf .ensures) (omega arith))
+    (c-pre .0 .0, rw (c-first-leaf .ensures) (c-pre .0 .0 .leaf-chain (c-args .n) (cone-node (c-pre .0 .0) (c-args .n) (c-pre .1) .below)))
 
 returns-5 : tie.Need-returns-5
 unfolding initialOf theoryOf
 returns-5 c =
-    let c-leaf-count = c .leaf-count in
+    let c-entries = c .entries in
     let c-first-leaf = c .before .first-leaf in
     let c-if5 = c .before .before .if5 in
     let c-waits-for-all = c .before .before .before .waits-for-all in
@@ -187,7 +187,7 @@ returns-5 c =
     let p4 = p3 .before .before .before .before .before in
     let c-pre = p4 .pre in
     let c-args = p4 .args in
-    rw (c-leaf-count .ensures, c-first-leaf .ensures)
+    rw (c-entries .ensures, c-first-leaf .ensures)
     (initial-uncut (c-pre .0 .0) (c-args .n) (c-pre .1) (bitAt (now (c-args .never))) (bitAt (now (c-args .atom-never))) (sym (c-bit .ensures) ∙ c-if1 .left) (c-kind .ensures)
     (sym (c-starts-true .ensures) ∙ c-if2 .left) (sym (c-takes-operand .ensures) ∙ c-if3 .left) (sym (c-waits-for-one .ensures) ∙ c-if4 .left) (sym (c-waits-for-all .ensures) ∙ c-if5 .taken))
 
@@ -230,6 +230,6 @@ read-spec =
     returns-4
     waits-for-all-requires
     first-leaf-requires
-    leaf-count-requires
+    entries-requires
     returns-5
     returns-6)

@@ -5,18 +5,19 @@ use denote.Ref.{now}
 use lib.ListN.{length}
 use Rattle.theory.specs.Words.{chain, Ending}
 use Rattle.theory.proofs.ChainLaws.{ending-next, chain-end, chain-step, chain-falls}
 use Rattle.graph.proofs.DecodeLaws.{link-in}
-use Rattle.initialization.proofs.leaf_count.Statement.{statement}
-use Rattle.initialization.proofs.leaf_count.Tie as tie
-use Rattle.initialization.proofs.leaf_count.Reads as reads
-use Rattle.initialization.proofs.leaf_count.Lts as lts
+use Rattle.graph.proofs.FollowLaws.{chain-few}
+use Rattle.graph.proofs.entries.Statement.{statement}
+use Rattle.graph.proofs.entries.Tie as tie
+use Rattle.graph.proofs.entries.Reads as reads
+use Rattle.graph.proofs.entries.Lts as lts
 use Rattle.graph.proofs.next.Reads as next-reads
 
 abbrev Inv-loop : tie.InvT-loop
-Inv-loop graph first n₀ link₀ n link = Ending graph link × (n + length (chain graph link) ≡ length (chain graph first))
+Inv-loop graph first n₀ l₀ n l = Ending graph l × (n + length (chain graph l) ≡ length (chain graph first))
 
 abbrev μ-loop : tie.MeasureT-loop
-μ-loop graph first n₀ link₀ n link = length (chain graph link)
+μ-loop graph first n₀ l₀ n l = length (chain graph l)
 
 loop-holds : tie.Need-loop-holds Inv-loop μ-loop
 loop-holds c =
@@ -28,7 +29,7 @@ add-n c =
     let c-loop = c .before .loop in
     let c-args = c .before .before .before .args in
     let c-pre = c .before .before .before .pre in
-    let e = ap length (chain-step (now (c-args .graph)) (c-loop .inv .0) (λ z. omega arith)) in let k = c-loop .inv .1 in let m = c-pre .2 in omega arith
+    let e = ap length (chain-step (now (c-args .graph)) (c-loop .inv .0) (λ z. omega arith)) in let k = c-loop .inv .1 in let m = chain-few (now (c-args .graph)) (c-args .first) in let f = c-pre .0 .links-few in omega arith
 
 next-requires : tie.Need-next-requires Inv-loop μ-loop
 next-requires c κs =
@@ -56,9 +57,9 @@ returns : tie.Need-returns Inv-loop μ-loop
 returns c =
     let c-loop = c .before .loop in
     let c-args = c .before .before .before .args in
-    let z : c-loop .link ≡ 0 = omega arith in let e = ap length (ap (chain (now (c-args .graph))) z ∙ chain-end (now (c-args .graph))) in let k = c-loop .inv .1 in omega arith
+    let z : c-loop .l ≡ 0 = omega arith in let e = ap length (ap (chain (now (c-args .graph))) z ∙ chain-end (now (c-args .graph))) in let k = c-loop .inv .1 in omega arith
 
-pub leaf-count-spec : {M : Type 1} → statement M
-leaf-count-spec =
+pub entries-spec : {M : Type 1} → statement M
+entries-spec =
     tie.close
     (tie.spec Inv-loop μ-loop loop-holds add-n next-requires loop-less loop-again returns)
