@@ -5,3 +5,4 @@ pub mod LookLaws
 pub mod ViewLaws
 pub mod StepLaws
 pub mod DescentLaws
+pub mod PassedLaws

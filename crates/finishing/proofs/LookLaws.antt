@@ -150,7 +150,7 @@ module _ {ed : Edition} {ws : List ℕ} (acc : Accepted ed ws) {b : Bases} {w : 
       }
 
       module _ (q : hasOperand ws (v - b .atoms) ≡ false) where
-        link-ends : Ending ws c
+        pub link-ends : Ending ws c
         link-ends = subst (Ending ws) (sym ec) (k .linked node-high (sym (ap (hasOperand ws) node-is) ∙ q))
 
         pub link-place : LinkIn ws c

@@ -4,7 +4,7 @@ use mathlib.Core.Path.{_≡_}
 use mathlib.Core.Logic.{_≢_}
 use mathlib.Core.Bool.{cond}
 use mathlib.Core.List.{List}
-use Prim.Native.Nat.{ℕ, _+_, _-_, _<_}
+use Prim.Native.Nat.{ℕ, _+_, _-_, _≤_, _<_}
 use lib.Dec.{eqb}
 use lib.ListN.{length, getD, set}
 use Rattle.theory.specs.Sets.{sumBelow}
@@ -48,6 +48,12 @@ module _ (ws : List ℕ) (b : Bases) where
     pub linked : Linked ws v cursor
     pub took : Took r (leftOf ws v (getD w (b .dependencies + v) 0)) (leftOf ws v cursor)
 
+  -- v is on top of the stack
+  pub record OnTop (w : List ℕ) (v top done : ℕ) : Type 0 where
+    pub walking : Walking w top done
+    pub some : 0 < top
+    pub top-is : v ≡ getD w (b .queue + (top - 1)) 0
+
   -- v is met, with `top` others on the stack
   abbrev pub discovered : List ℕ → (v top : ℕ) → List ℕ
   discovered w v top = set (set (set w (markOf b v) 2) (b .dependencies + v) (firstOf ws v)) (b .queue + top) v
@@ -67,6 +73,17 @@ module _ (ws : List ℕ) (b : Bases) where
     pub kept : Kept b w w′
     -- no vertex becomes one to be met
     pub settled : (v : ℕ) → v < vertices (theoryOf ws) → markIn b w v ≢ 1 → markIn b w′ v ≢ 1
+
+  -- the walk, were c the cursor of v: the entries before c lead to vertices that are met
+  pub record Passed (w : List ℕ) (v c top done : ℕ) : Type 0 where
+    pub walked : Walked w (set w (b .dependencies + v) c) top done
+    pub least : ahead (set w (b .dependencies + v) c) done ≤ ahead w done
+
+  -- such entries are passed over, and the next one is r
+  pub record Found (w w′ : List ℕ) (v : ℕ) (r : Entry) : Type 0 where
+    pub cursor : ℕ
+    pub passed : (top done : ℕ) → OnTop w v top done → Passed w v cursor top done
+    pub looked : Looked (set w (b .dependencies + v) cursor) w′ v r
 
   pub record Stepped (w w′ : List ℕ) (top done done₀ : ℕ) : Type 0 where
     pub walked : Walked w w′ top done

@@ -1,15 +1,18 @@
 // The first walk of Sharir (1981): from a vertex to its predecessors, with a stack and a cursor a vertex, which lists the vertices of preparation
 // in a finishing order. A vertex is marked 1 until it is met and 2 from then on; what is marked 0 is outside.
 ghost use mathlib.Core.Path.{_≡_};
-ghost use Prim.Native.Nat.{_+_, _<_, _≤_, _^_};
+ghost use mathlib.Core.Bool.{true, false};
+ghost use Prim.Native.Nat.{ℕ, _+_, _-_, _<_, _≤_};
+ghost use lib.Dec.{eqb};
+ghost use lib.ListN.{length};
 ghost use Rattle.theory.specs.Words.{theoryOf};
 ghost use Rattle.theory.specs.Edges.{vertices};
 ghost use Rattle.theory.specs.Accepted.{Accepted, edition1};
 ghost use Rattle.area.specs.Layout.{Laid};
-ghost use Rattle.area.specs.Marks.{markOf};
-ghost use Rattle.finishing.specs.Cursors.{firstOf};
+ghost use Rattle.area.specs.Marks.{markIn};
+ghost use Rattle.finishing.specs.Cursors.{hasOperand, firstOf};
 ghost use Rattle.finishing.specs.Finished.{Ready, Marked, Finished};
-ghost use Rattle.finishing.specs.Walking.{Walking, Looking, Looked, Meeting, Met, Stepped, Descended};
+ghost use Rattle.finishing.specs.Walking.{Walking, OnTop, Looking, Looked, Found, Meeting, Met, Stepped, Descended};
 use area::Bases;
 
 // What stands at a cursor: a vertex, a fact, or nothing more.
@@ -55,53 +58,83 @@ fn meet(graph: &[u16], work: &mut [u16], b: Bases, v: usize, top: usize) -> usiz
     top + 1
 }
 
-// The next producer with head a.
-fn look_atom(graph: &[u16], work: &mut [u16], b: Bases, a: usize) -> Entry
-    requires { ⌜ Accepted edition1 (now graph) × Looking (now graph) b (now work) a × (a < b .atoms) ⌝ }
-    ensures { λ r. ⌜ Looked (now (graph .entry)) b (now (work .entry)) (now (work .exit)) a r ⌝ }
+// Whether vertex v is still to be met.
+fn is_new(work: &[u16], b: Bases, v: usize) -> bool
+    requires { ⌜ Laid b × (v < b .atoms + b .nodes) × (b .end ≤ length (now work)) ⌝ }
+    ensures { λ r. ⌜ r ≡ eqb (markIn b (now (work .entry)) v) 1 ⌝ }
 {
-    let cursor = graph::at(work, b.dependencies + a);
-    let i = adjacency::row_start(work, b.by_head, b.atoms, a) + cursor;
-    if i >= adjacency::row_start(work, b.by_head, b.atoms, a + 1) {
-        return Entry::Done;
-    }
-    let body = graph::body(graph, graph::at(work, i));
-    area::put(work, b.dependencies + a, cursor + 1);
-    if body == 0 {
-        return Entry::Fact;
-    }
-    Entry::Vertex(b.atoms + (body - 1))
+    graph::at(work, area::mark(b, v)) == 1
 }
 
-// The operand of a node, or its next leaf.
-fn look_node(graph: &[u16], work: &mut [u16], b: Bases, v: usize) -> Entry
-    requires { ⌜ Accepted edition1 (now graph) × Looking (now graph) b (now work) v × (b .atoms ≤ v) ⌝ }
+// The next producer with head a that is a fact, or whose body is still to be met.
+fn look_atom(graph: &[u16], work: &mut [u16], b: Bases, a: usize) -> Entry
+    requires { ⌜ Accepted edition1 (now graph) × ((top : ℕ) × (done : ℕ) × OnTop (now graph) b (now work) a top done) × (a < b .atoms) ⌝ }
+    ensures { λ r. ⌜ Found (now (graph .entry)) b (now (work .entry)) (now (work .exit)) a r ⌝ }
+{
+    let place = b.dependencies + a;
+    let start = adjacency::row_start(work, b.by_head, b.atoms, a);
+    let end = adjacency::row_start(work, b.by_head, b.atoms, a + 1);
+    let mut cursor = graph::at(work, place);
+    while start + cursor < end {
+        let body = graph::body(graph, graph::at(work, start + cursor));
+        cursor += 1;
+        if body == 0 {
+            area::put(work, place, cursor);
+            return Entry::Fact;
+        }
+        if is_new(work, b, b.atoms + (body - 1)) {
+            area::put(work, place, cursor);
+            return Entry::Vertex(b.atoms + (body - 1));
+        }
+    }
+    area::put(work, place, cursor);
+    Entry::Done
+}
+
+// The next leaf of a node that is still to be met.
+fn look_leaf(graph: &[u16], work: &mut [u16], b: Bases, v: usize) -> Entry
+    requires { ⌜ Accepted edition1 (now graph) × ((top : ℕ) × (done : ℕ) × OnTop (now graph) b (now work) v top done) × (b .atoms ≤ v) × (hasOperand (now graph) (v - b .atoms) ≡ false) ⌝ }
+    ensures { λ r. ⌜ Found (now (graph .entry)) b (now (work .entry)) (now (work .exit)) v r ⌝ }
+{
+    let place = b.dependencies + v;
+    let mut cursor = graph::at(work, place);
+    while cursor > 0 {
+        let leaf = graph::value(graph, cursor);
+        cursor = graph::next(graph, cursor);
+        if is_new(work, b, b.atoms + leaf) {
+            area::put(work, place, cursor);
+            return Entry::Vertex(b.atoms + leaf);
+        }
+    }
+    area::put(work, place, 0);
+    Entry::Done
+}
+
+// The operand of a node, unless it has been looked at.
+fn look_operand(graph: &[u16], work: &mut [u16], b: Bases, v: usize) -> Entry
+    requires { ⌜ Accepted edition1 (now graph) × Looking (now graph) b (now work) v × (b .atoms ≤ v) × (hasOperand (now graph) (v - b .atoms) ≡ true) ⌝ }
     ensures { λ r. ⌜ Looked (now (graph .entry)) b (now (work .entry)) (now (work .exit)) v r ⌝ }
 {
     let place = b.dependencies + v;
-    let cursor = graph::at(work, place);
-    if cursor == 0 {
+    if graph::at(work, place) == 0 {
         return Entry::Done;
     }
-    let n = v - b.atoms;
-    if graph::takes_operand(graph::kind(graph, n)) {
-        area::put(work, place, 0);
-        return Entry::Vertex(graph::operand(graph, n));
-    }
-    let leaf = graph::value(graph, cursor);
-    area::put(work, place, graph::next(graph, cursor));
-    Entry::Vertex(b.atoms + leaf)
+    area::put(work, place, 0);
+    Entry::Vertex(graph::operand(graph, v - b.atoms))
 }
 
-// The next entry of a vertex; its cursor goes past it.
+// The next entry of a vertex, past those that lead to vertices met before; its cursor goes past it.
 fn look(graph: &[u16], work: &mut [u16], b: Bases, v: usize) -> Entry
-    requires { ⌜ Accepted edition1 (now graph) × Looking (now graph) b (now work) v ⌝ }
-    ensures { λ r. ⌜ Looked (now (graph .entry)) b (now (work .entry)) (now (work .exit)) v r ⌝ }
+    requires { ⌜ Accepted edition1 (now graph) × ((top : ℕ) × (done : ℕ) × OnTop (now graph) b (now work) v top done) ⌝ }
+    ensures { λ r. ⌜ Found (now (graph .entry)) b (now (work .entry)) (now (work .exit)) v r ⌝ }
 {
     if v < b.atoms {
         return look_atom(graph, work, b, v);
     }
-    look_node(graph, work, b, v)
+    if graph::takes_operand(graph::kind(graph, v - b.atoms)) {
+        return look_operand(graph, work, b, v);
+    }
+    look_leaf(graph, work, b, v)
 }
 
 // One step: the next entry of the top is looked at, and met if it is new; a top with nothing left is finished.

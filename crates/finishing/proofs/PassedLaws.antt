@@ -1,0 +1,230 @@
+-- Entries that lead to vertices met before are passed over with the cursor held aside (`passed-none`, `passed-met`): the walk stands as if the cursor were stored. What is
+-- found then is what a look from there finds (`leaf-found`, `body-found`, `fact-found`), and a step from there is a step (`done-step`, `fact-step`, `vertex-step`).
+use mathlib.Core.Path.{_≡_, refl, sym, ap, _∙_, subst}
+use mathlib.Core.Logic.{_≢_}
+use mathlib.Core.Bool.{Bool, false}
+use mathlib.Core.List.{List}
+use Prim.Native.Nat.{ℕ, _+_, _-_, _≤_, _<_}
+use native.Mathlib.Omega.{arith}
+use lib.Dec.{eqb}
+use lib.ListN.{length, getD, set, length-set}
+use lib.Seq.{getD-set-same, getD-set-other, set-getD, set-set}
+use Rattle.theory.specs.Words.{producerAt, valueOf, nextOf, Ending, theoryOf}
+use Rattle.theory.specs.Edges.{vertices}
+use Rattle.theory.specs.Accepted.{Edition, Accepted}
+use Rattle.theory.proofs.SetLaws.{clash, is-eq}
+use Rattle.graph.specs.Layout.{ProducerIn, LinkIn}
+use Rattle.area.specs.declared.Bases.{Bases}
+use Rattle.area.specs.Marks.{markIn}
+use Rattle.adjacency.specs.Tables.{startAt}
+use Rattle.finishing.specs.declared.Entry.{Entry}
+use Rattle.finishing.specs.declared.Entry.the-variants.{Vertex, Fact, Done}
+use Rattle.finishing.specs.Cursors.{hasOperand}
+use Rattle.finishing.specs.Finished.{Ready}
+use Rattle.finishing.specs.Walking.{Walking, OnTop, Looking, Looked, Meeting, Met, Passed, Found, known, Stepped}
+use Rattle.finishing.proofs.PlaceLaws.{atoms-are, cursor-place, vertex-low}
+use Rattle.finishing.proofs.ViewLaws.{look-marks}
+use Rattle.finishing.proofs.LookLaws as look
+use Rattle.finishing.proofs.StepLaws as step
+use Rattle.finishing.proofs.StepLaws.{top-low, top-looking, looked-ready, entry-meeting, step-vertex}
+use Rattle.finishing.proofs.DescentLaws.{walked-none, walked-on}
+
+pub as-top : {ws : List ℕ} {b : Bases} {w : List ℕ} {v top done : ℕ} → Walking ws b w top done → 0 < top → v ≡ getD w (b .queue + (top - 1)) 0 → OnTop ws b w v top done
+as-top h s e = record { walking = h; some = s; top-is = e }
+
+module _ {ws : List ℕ} {b : Bases} {w : List ℕ} {v top done : ℕ} (o : OnTop ws b w v top done) where
+  pub top-under : v < vertices (theoryOf ws)
+  top-under = top-low (o .walking) (o .some) (o .top-is)
+
+  pub here : b .dependencies + v < length w
+  here = cursor-place (o .walking .ready .based) v top-under
+
+  pub looking : Looking ws b w v
+  looking = top-looking (o .walking) (o .some) (o .top-is)
+
+  pub passed-none : {c : ℕ} → c ≡ getD w (b .dependencies + v) 0 → Passed ws b w v c top done
+  passed-none {c} e = record { walked = rw same (walked-none (o .walking)); least = rw same (omega arith) }
+    where
+      same : set w (b .dependencies + v) c ≡ w
+      same = ap (set w (b .dependencies + v)) e ∙ set-getD w (b .dependencies + v) 0
+
+  module _ {c : ℕ} (p : Passed ws b w v c top done) where
+    -- the words with the cursor stored
+    abbrev kept : List ℕ
+    kept = set w (b .dependencies + v) c
+
+    pub on-top : OnTop ws b kept v top done
+    on-top = record {
+      walking = p .walked .walking;
+      some = o .some;
+      top-is = o .top-is
+          ∙ sym (getD-set-other w (b .dependencies + v) (b .queue + (top - 1)) c 0
+          (λ q. let l = o .walking .ready .based .laid in let u = vertex-low (o .walking .ready .based) v top-under in omega arith));
+    }
+
+    pub cursor-is : c ≡ getD kept (b .dependencies + v) 0
+    cursor-is = sym (getD-set-same w (b .dependencies + v) c 0 here)
+
+    pub next-looking : Looking ws b kept v
+    next-looking = top-looking (on-top .walking) (o .some) (on-top .top-is)
+
+    -- a word of the tables
+    pub word-is : (i : ℕ) → i < b .states → getD kept i 0 ≡ getD w i 0
+    word-is i l = getD-set-other w (b .dependencies + v) i c 0 (λ q. let a = o .walking .ready .based .laid in omega arith)
+
+    module _ {ed : Edition} (acc : Accepted ed ws) (c′ : ℕ) {x : ℕ} (k : Looked ws b kept (set kept (b .dependencies + v) c′) v (Vertex x)) where
+      pub entry-under : x < vertices (theoryOf ws)
+      entry-under = entry-meeting (on-top .walking) (o .some) (on-top .top-is) acc k .low
+
+      pub passed-met : markIn b w x ≢ 1 → Passed ws b w v c′ top done
+      passed-met n = record {
+        walked = walked-on (p .walked) (s .walked);
+        least = let l = s .less in let m = p .least in omega arith;
+      }
+        where
+          again : set kept (b .dependencies + v) c′ ≡ set w (b .dependencies + v) c′
+          again = set-set w (b .dependencies + v) c c′
+
+          s : Stepped ws b kept (set w (b .dependencies + v) c′) top done done
+          s =
+              subst (λ (l : List ℕ). Stepped ws b kept l top done done) again
+              (step-vertex (on-top .walking) (o .some) (on-top .top-is) acc k
+              (known (λ q. n (sym (look-marks (o .walking .ready) v top-under c′ x entry-under) ∙ ap (λ (l : List ℕ). markIn b l x) (sym again) ∙ q)) refl refl))
+
+-- what `is_new` says of a vertex that is met
+pub not-new : (b : Bases) {w w′ : List ℕ} (x : ℕ) {r : Bool} → w′ ≡ w → r ≡ eqb (markIn b w′ x) 1 → r ≡ false → markIn b w x ≢ 1
+not-new b {w} {w′} x {r} e s f q = clash (is-eq (markIn b w x) 1 q) (ap (λ (l : List ℕ). eqb (markIn b l x) 1) (sym e) ∙ sym s ∙ f)
+
+-- a step, from where the look found its entry
+module _ {ws : List ℕ} {b : Bases} {w w₁ : List ℕ} {v top done : ℕ} (o : OnTop ws b w v top done) where
+  module _ {r : Entry} (f : Found ws b w w₁ v r) where
+    there : OnTop ws b (set w (b .dependencies + v) (f .cursor)) v top done
+    there = on-top o (f .passed top done o)
+
+    from-there : {w₂ : List ℕ} {top′ done′ : ℕ} → Stepped ws b (set w (b .dependencies + v) (f .cursor)) w₂ top′ done′ done → Stepped ws b w w₂ top′ done′ done
+    from-there s = let p = f .passed top done o in record { walked = walked-on (p .walked) (s .walked); less = let l = s .less in let m = p .least in omega arith }
+
+    pub found-ready : Ready ws b w₁
+    found-ready = looked-ready (there .walking) (there .some) (there .top-is) (f .looked)
+
+  pub done-room : Found ws b w w₁ v Done → done < vertices (theoryOf ws)
+  done-room f = step.done-room (there f .walking) (o .some) (there f .top-is) (f .looked)
+
+  pub done-step : Found ws b w w₁ v Done → Stepped ws b w (set w₁ (b .«body_nodes» + done) v) (top - 1) (done + 1) done
+  done-step f = from-there f (step.step-done (there f .walking) (o .some) (there f .top-is) (f .looked))
+
+  pub fact-step : Found ws b w w₁ v Fact → Stepped ws b w w₁ top done done
+  fact-step f = from-there f (step.step-fact (there f .walking) (o .some) (there f .top-is) (f .looked))
+
+  module _ {ed : Edition} (acc : Accepted ed ws) {x : ℕ} (f : Found ws b w w₁ v (Vertex x)) where
+    pub vertex-meeting : Meeting ws b w₁ x top
+    vertex-meeting = entry-meeting (there f .walking) (o .some) (there f .top-is) acc (f .looked)
+
+    pub vertex-step : {w₂ : List ℕ} {t : ℕ} → Met ws b w₁ w₂ x top t → Stepped ws b w w₂ t done done
+    vertex-step m = from-there f (step-vertex (there f .walking) (o .some) (there f .top-is) acc (f .looked) m)
+
+-- a look without passing over anything
+pub found-looked : {ws : List ℕ} {b : Bases} {w w′ : List ℕ} {v : ℕ} {r : Entry} → Looked ws b w w′ v r → Found ws b w w′ v r
+found-looked {ws} {b} {w} {w′} {v} {r} k = record {
+  cursor = getD w (b .dependencies + v) 0;
+  passed = λ top done o. passed-none o refl;
+  looked = rw (set-getD w (b .dependencies + v) 0) k;
+}
+
+-- every walk with v on top passes the entries before c
+module _ {ed : Edition} {ws : List ℕ} (acc : Accepted ed ws) {b : Bases} {w : List ℕ} {v top done : ℕ} (o : OnTop ws b w v top done) {c : ℕ}
+    (all : (top done : ℕ) → OnTop ws b w v top done → Passed ws b w v c top done) where
+  p : Passed ws b w v c top done
+  p = all top done o
+
+  found : (c′ : ℕ) {r : Entry} → Looked ws b (kept o p) (set (kept o p) (b .dependencies + v) c′) v r → Found ws b w (set w (b .dependencies + v) c′) v r
+  found c′ k = record { cursor = c; passed = all; looked = rw (set-set w (b .dependencies + v) c c′) at k }
+
+  found-end : Looked ws b (kept o p) (kept o p) v Done → Found ws b w (set w (b .dependencies + v) c) v Done
+  found-end k = record { cursor = c; passed = all; looked = k }
+
+  -- ---- leaves
+
+  module _ (high : b .atoms ≤ v) where
+    pub leaves-done : c ≡ 0 → Found ws b w (set w (b .dependencies + v) 0) v Done
+    leaves-done z = subst (λ (i : ℕ). Found ws b w (set w (b .dependencies + v) i) v Done) z (found-end (look.node-done acc (next-looking o p) high (cursor-is o p) z))
+
+    module _ (q : hasOperand ws (v - b .atoms) ≡ false) (some : c ≢ 0) where
+      pub leaf-link : LinkIn ws c
+      leaf-link = look.link-place acc (next-looking o p) high (cursor-is o p) some q
+
+      pub leaf-ends : Ending ws c
+      leaf-ends = look.link-ends acc (next-looking o p) high (cursor-is o p) some q
+
+      pub leaf-few : nextOf ws c ≤ ed .links
+      leaf-few = look.next-few acc (next-looking o p) high (cursor-is o p) some q
+
+      module _ (c′ : ℕ) {x : ℕ} (ec : c′ ≡ nextOf ws c) (ex : x ≡ valueOf ws c) where
+        leaf-looked : Looked ws b (kept o p) (set (kept o p) (b .dependencies + v) c′) v (Vertex (b .atoms + x))
+        leaf-looked = look.node-leaf acc (next-looking o p) high (cursor-is o p) some q ec ex
+
+        pub leaf-under : b .atoms + x < vertices (theoryOf ws)
+        leaf-under = entry-under o p acc c′ leaf-looked
+
+        pub leaf-found : Found ws b w (set w (b .dependencies + v) c′) v (Vertex (b .atoms + x))
+        leaf-found = found c′ leaf-looked
+
+        pub leaf-passed : markIn b w (b .atoms + x) ≢ 1 → Passed ws b w v c′ top done
+        leaf-passed n = passed-met o p acc c′ leaf-looked n
+
+  -- ---- the producers of an atom
+
+  module _ (low : v < b .atoms) {s t : ℕ} (es : s ≡ startAt w (b .«by_head») (b .atoms) v) (et : t ≡ startAt w (b .«by_head») (b .atoms) (v + 1)) where
+    start-is : (r : ℕ) → r ≤ b .atoms → startAt w (b .«by_head») (b .atoms) r ≡ startAt (kept o p) (b .«by_head») (b .atoms) r
+    start-is r l = ap (λ (n : ℕ). b .«by_head» + (b .atoms + 1) + n) (sym (word-is o p (b .«by_head» + r) (let a = o .walking .ready .based .laid in omega arith)))
+
+    es′ : s ≡ startAt (kept o p) (b .«by_head») (b .atoms) v
+    es′ = es ∙ start-is v (omega arith)
+
+    et′ : t ≡ startAt (kept o p) (b .«by_head») (b .atoms) (v + 1)
+    et′ = et ∙ start-is (v + 1) (omega arith)
+
+    pub row-done : t ≤ s + c → Found ws b w (set w (b .dependencies + v) c) v Done
+    row-done h = found-end (look.atom-done acc (next-looking o p) low (cursor-is o p) es′ et′ h)
+
+    pub start-place : s ≤ length w
+    start-place = let e = length-set w (b .dependencies + v) c in let l = look.start-place acc (next-looking o p) low (cursor-is o p) es′ et′ in omega arith
+
+    module _ (more : s + c < t) where
+      under : s + c < b .states
+      under =
+          let k = next-looking o p .ready in
+          let i = k .table .inside (v + 1) (let e = atoms-are (k .based) in omega arith) in
+          let e = ap (λ (n : ℕ). startAt (kept o p) (b .«by_head») n (v + 1)) (atoms-are (k .based)) in
+          let f = et′ in let a = k .based .laid in
+          omega arith
+
+      pub entry-place : s + c < length w
+      entry-place = let u = under in let a = o .walking .ready .based .laid in let z = o .walking .ready .based .ends in omega arith
+
+      pub cursor-few : c + 1 ≤ ed .entries
+      cursor-few = look.cursor-few acc (next-looking o p) low (cursor-is o p) es′ et′ more
+
+      module _ {n : ℕ} (en : n ≡ getD w (s + c) 0) where
+        en′ : n ≡ getD (kept o p) (s + c) 0
+        en′ = en ∙ sym (word-is o p (s + c) under)
+
+        pub producer-in : ProducerIn ws n
+        producer-in = look.producer-in acc (next-looking o p) low (cursor-is o p) es′ et′ more en′
+
+        module _ {body : ℕ} (eb : body ≡ getD ws (producerAt ws n) 0) where
+          pub fact-found : body ≡ 0 → Found ws b w (set w (b .dependencies + v) (c + 1)) v Fact
+          fact-found z = found (c + 1) (look.atom-fact acc (next-looking o p) low (cursor-is o p) es′ et′ more en′ eb z)
+
+          module _ (z : body ≢ 0) where
+            pub body-fits : b .atoms + (body - 1) < b .atoms + b .nodes
+            body-fits = look.body-fits acc (next-looking o p) low (cursor-is o p) es′ et′ more en′ eb z
+
+            body-looked : Looked ws b (kept o p) (set (kept o p) (b .dependencies + v) (c + 1)) v (Vertex (b .atoms + (body - 1)))
+            body-looked = look.atom-body acc (next-looking o p) low (cursor-is o p) es′ et′ more en′ eb z
+
+            pub body-found : Found ws b w (set w (b .dependencies + v) (c + 1)) v (Vertex (b .atoms + (body - 1)))
+            body-found = found (c + 1) body-looked
+
+            pub body-passed : markIn b w (b .atoms + (body - 1)) ≢ 1 → Passed ws b w v (c + 1) top done
+            body-passed n = passed-met o p acc (c + 1) body-looked n
