@@ -1,13 +1,13 @@
--- The bits of a set in one number: each is read back by a shift, a number is the bits of its own digits, and `|`, `& !` and `1 << b` are
--- union, difference and one member.
+-- The bits of a set in one number: each is read back by a shift, a number is the bits of its own digits, and `|` and `1 << b` are union and
+-- one member.
 use mathlib.Core.Path.{_≡_, refl, sym, ap, ap₂, _∙_}
-use mathlib.Core.Bool.{Bool, true, false, not, _&&_, _||_}
-use Prim.Native.Nat.{ℕ, zero, suc, _+_, _-_, _*_, _/_, _%_, _^_, _≤_, _<_, max, min}
+use mathlib.Core.Bool.{Bool, true, false, _||_}
+use Prim.Native.Nat.{ℕ, zero, suc, _+_, _-_, _*_, _/_, _%_, _^_, _≤_, _<_, max}
 use native.Mathlib.Nat.{not-suc-le-zero, le-of-suc-le-suc, one-mul, pow-suc}
 use native.Mathlib.Numerals.{one-add}
 use native.Mathlib.Omega.{arith}
 use borrow.Author.Tests.{eq-eqb, ne-eqb}
-use lib.Bits.{bitAnd, bitOr, and-step, or-step, or-shifted}
+use lib.Bits.{bitOr, or-step, or-shifted}
 use lib.Dec.{eqb}
 use lib.Pow.{shr-shr, shl-exact}
 use Rattle.theory.specs.Sets.{Set}
@@ -132,25 +132,3 @@ bits-or = bits-op bitOr max (λ a b. a || b) refl or-step digits
     digits true false = refl
     digits false true = refl
     digits false false = refl
-
-bits-and : (s t : Set) (i k : ℕ) → bitAnd (bits s i k) (bits t i k) ≡ bits (λ j. s j && t j) i k
-bits-and = bits-op bitAnd min (λ a b. a && b) refl and-step digits
-  where
-    digits : (a b : Bool) → min (digit a) (digit b) ≡ digit (a && b)
-    digits true true = refl
-    digits true false = refl
-    digits false true = refl
-    digits false false = refl
-
-bits-not : (s : Set) (i k : ℕ) → (2 ^ k - 1) - bits s i k ≡ bits (λ j. not (s j)) i k
-unfolding bits
-bits-not s i zero = refl
-bits-not s i (suc k) = omega (arith, digits (s i), bits-fit s (suc i) k, bits-not s (suc i) k, pow-suc 2 k)
-  where
-    digits : (b : Bool) → digit b + digit (not b) ≡ 1
-    digits true = refl
-    digits false = refl
-
--- `x & !y`
-pub bits-without : (s t : Set) (i k x y : ℕ) → x ≡ bits s i k → y ≡ bits t i k → bitAnd x ((2 ^ k - 1) - y) ≡ bits (λ j. s j && not (t j)) i k
-bits-without s t i k x y p q = ap₂ bitAnd p (ap (λ (z : ℕ). (2 ^ k - 1) - z) q ∙ bits-not t i k) ∙ bits-and s (λ j. not (t j)) i k

@@ -11,7 +11,7 @@ use native.Mathlib.Omega.{arith}
 use borrow.Author.Tests.{lt-ltb, le-ltb, eq-eqb, ne-eqb}
 use lib.Bits.{bitOr, or-comm}
 use lib.Dec.{eqb, ltb}
-use lib.ListN.{length, getD, set, drop, replicate, length-append, length-set, length-replicate, getD-replicate, List·getD-append, List·getD-eq-default}
+use lib.ListN.{length, getD, set, drop, length-append, length-set, List·getD-append, List·getD-eq-default}
 use lib.Seq.{drop-cons, drop-length, set-at, getD-at, getD-set-same, getD-set-other, ext-getD}
 use Rattle.theory.specs.Sets.{Set}
 use Rattle.theory.specs.Words.{bitAt}
@@ -130,14 +130,6 @@ module _ (m : List ℕ) (i : ℕ) (fit : (v : ℕ) → getD m v 0 < 2 ^ 64) wher
           ∙ bits-ext (bitAt m) (λ j. eqb j i || bitAt m j) (64 * v) 64 (λ j l u. rw (ne-eqb j i (λ q. omega arith)))
 
 -- ---- a loop over the numbers: the mask has the members passed
-
-pub mask-none : (w : ℕ) (s : Set) → replicate w 0 ≡ maskOf w (below 0 s)
-mask-none w s =
-    mask-unique (replicate w 0) (below 0 s) (λ v l. word v (omega (arith, length-replicate {A = ℕ} w 0)))
-    ∙ ap (λ (n : ℕ). maskOf n (below 0 s)) (length-replicate {A = ℕ} w 0)
-  where
-    word : (v : ℕ) → v < w → getD (replicate w 0) v 0 ≡ bits (below 0 s) (64 * v) 64
-    word v l = getD-replicate w v 0 0 l ∙ sym (bits-none (below 0 s) (64 * v) 64 (λ j _ _. rw (le-ltb j 0 (omega arith))))
 
 module _ (w a : ℕ) (s : Set) where
   passed : (j : ℕ) → (j ≡ a → ⊥) → below a s j ≡ below (a + 1) s j

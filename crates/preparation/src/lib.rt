@@ -1,6 +1,6 @@
 // Preparation and the pass on the work area: row tables, body cone, cyclic atoms; then the cyclic cone, start states and the worklist.
 ghost use mathlib.Core.Path.{_≡_};
-ghost use Prim.Native.Nat.{_+_, _<_, _≤_};
+ghost use Prim.Native.Nat.{_+_, _<_};
 ghost use lib.ListN.{length, replicate};
 ghost use Rattle.theory.specs.Words.{bitAt};
 ghost use Rattle.theory.specs.Accepted.{Accepted, edition1};
@@ -18,7 +18,7 @@ pub enum Marks {
 
 // The four row tables.
 fn build_rows(graph: &[u16], work: &mut [u16], b: Bases)
-    requires { ⌜ Accepted edition1 (now graph) × Based (now graph) (length (now work)) b × length (now work) ≤ 1073741824 ⌝ }
+    requires { ⌜ Accepted edition1 (now graph) × Based (now graph) (length (now work)) b ⌝ }
     ensures { λ _. ⌜ Rowed (now (graph .entry)) b (now (work .entry)) (now (work .exit)) ⌝ }
 {
     adjacency::build_in(graph, work, b, Table::AtomNodes);
@@ -50,7 +50,7 @@ fn walk(graph: &[u16], work: &mut [u16], b: Bases)
 
 // Row tables, body cone and cyclic atoms.
 fn mark(graph: &[u16], work: &mut [u16], b: Bases) -> Marks
-    requires { ⌜ Accepted edition1 (now graph) × Based (now graph) (length (now work)) b × length (now work) ≤ 1073741824 ⌝ }
+    requires { ⌜ Accepted edition1 (now graph) × Based (now graph) (length (now work)) b ⌝ }
     ensures { λ r. ⌜ Staged (now (graph .entry)) b (now (work .entry)) (now (work .exit)) r ⌝ }
 {
     build_rows(graph, work, b);
@@ -65,7 +65,7 @@ fn mark(graph: &[u16], work: &mut [u16], b: Bases) -> Marks
 
 // The cyclic atoms, flagged.
 pub fn cyclic_atoms(graph: &[u16], work: &mut [u16], b: Bases) -> Marks
-    requires { ⌜ Accepted edition1 (now graph) × Based (now graph) (length (now work)) b × length (now work) ≤ 1073741824 ⌝ }
+    requires { ⌜ Accepted edition1 (now graph) × Based (now graph) (length (now work)) b ⌝ }
     ensures { λ r. ⌜ Marked (now (graph .entry)) b (now (work .entry)) (now (work .exit)) r ⌝ }
 {
     mark(graph, work, b)
@@ -89,7 +89,7 @@ pub fn missing(
     work: &mut [u16],
     b: Bases,
 ) -> Marks
-    requires { ⌜ Accepted edition1 (now graph) × Based (now graph) (length (now work)) b × length (now work) ≤ 1073741824 ⌝ }
+    requires { ⌜ Accepted edition1 (now graph) × Based (now graph) (length (now work)) b ⌝ }
     ensures { λ r. ⌜ Listed (now (graph .entry)) (bitAt (now (never .entry))) (bitAt (now («atom_never» .entry))) b (now (work .entry)) (now (work .exit)) r ⌝ }
 {
     match mark(graph, work, b) {

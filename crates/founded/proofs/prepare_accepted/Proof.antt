@@ -22,7 +22,7 @@ cyclic-atoms-requires c κs =
     let p1 = c .before .before .before .before .before in
     let c-args = p1 .args in
     let c-pre = p1 .pre in
-    (accepted edition1 (now (c-args .graph)) (c-pre .0), rw (c-pre .2) (c-bases-of .ensures), omega (arith, c-pre .2))
+    (accepted edition1 (now (c-args .graph)) (c-pre .0), rw (c-pre .2) (c-bases-of .ensures))
 
 enum-told : tie.Need-enum-told
 enum-told c = search needs
