@@ -52,7 +52,7 @@ mod theory;
 pub use calls::{WORK_WORDS, check, complete, mask_words, needed, prepare};
 pub use error::Error;
 pub use graph::Graph;
-pub use mask::{AtomMask, Atoms, NodeMask};
+pub use mask::{AtomMask, Atoms, Cut, Mask, NodeMask};
 pub use refusal::Refusal;
 pub use solver::Solver;
 pub use theory::{AtomId, Node, NodeId, Producer, ProducerId, Theory};

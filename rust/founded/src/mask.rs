@@ -1,27 +1,48 @@
+use std::marker::PhantomData;
+
 use crate::{AtomId, Error, Graph, NodeId, calls};
 
-/// A bit for each number below `count`, lowest first.
-#[derive(Clone, Debug, PartialEq, Eq)]
-struct Bits {
-    words: Vec<u64>,
-    count: usize,
-}
+/// What can be cut: nodes and atoms.
+pub trait Cut: Copy + sealed::Numbered {}
 
-impl Bits {
-    fn clear(count: usize) -> Self {
-        Self {
-            words: vec![0; calls::mask_words(count)],
-            count,
+impl Cut for NodeId {}
+impl Cut for AtomId {}
+
+mod sealed {
+    use crate::{AtomId, Error, Graph, NodeId};
+
+    pub trait Numbered {
+        fn count(graph: &Graph) -> usize;
+        fn number(self) -> u16;
+        fn unknown(self) -> Error;
+    }
+
+    impl Numbered for NodeId {
+        fn count(graph: &Graph) -> usize {
+            graph.nodes()
+        }
+
+        fn number(self) -> u16 {
+            self.0
+        }
+
+        fn unknown(self) -> Error {
+            Error::NoNode(self)
         }
     }
 
-    /// False if there is no such number.
-    fn set(&mut self, number: u16) -> bool {
-        let number = usize::from(number);
-        if number < self.count {
-            self.words[number / 64] |= 1 << (number % 64);
+    impl Numbered for AtomId {
+        fn count(graph: &Graph) -> usize {
+            graph.atoms()
         }
-        number < self.count
+
+        fn number(self) -> u16 {
+            self.0
+        }
+
+        fn unknown(self) -> Error {
+            Error::NoAtom(self)
+        }
     }
 }
 
@@ -32,79 +53,61 @@ fn bit(words: &[u64], number: u16) -> bool {
         .is_some_and(|word| word >> (number % 64) & 1 == 1)
 }
 
-/// The nodes of a graph that are cut: ruled out, false whatever their kind.
+/// Nodes or atoms of a graph that are cut: a bit for each number, lowest first.
 #[derive(Clone, Debug, PartialEq, Eq)]
-pub struct NodeMask(Bits);
-
-impl NodeMask {
-    /// Cuts none.
-    #[must_use]
-    pub fn none(graph: &Graph) -> Self {
-        Self(Bits::clear(graph.nodes()))
-    }
-
-    /// Cuts these.
-    ///
-    /// # Errors
-    /// A node that the graph does not have.
-    pub fn of(graph: &Graph, nodes: impl IntoIterator<Item = NodeId>) -> Result<Self, Error> {
-        let mut mask = Self::none(graph);
-        nodes.into_iter().try_for_each(|node| mask.cut(node))?;
-        Ok(mask)
-    }
-
-    /// # Errors
-    /// A node that the graph does not have.
-    pub fn cut(&mut self, node: NodeId) -> Result<(), Error> {
-        self.0.set(node.0).then_some(()).ok_or(Error::NoNode(node))
-    }
-
-    #[must_use]
-    pub fn contains(&self, node: NodeId) -> bool {
-        bit(&self.0.words, node.0)
-    }
-
-    #[must_use]
-    pub fn words(&self) -> &[u64] {
-        &self.0.words
-    }
+pub struct Mask<I> {
+    words: Vec<u64>,
+    count: usize,
+    of: PhantomData<I>,
 }
 
-/// The atoms of a graph that are cut: ruled out, and so never missing.
-#[derive(Clone, Debug, PartialEq, Eq)]
-pub struct AtomMask(Bits);
+/// The nodes of a graph that are cut: ruled out, false whatever their kind.
+pub type NodeMask = Mask<NodeId>;
 
-impl AtomMask {
+/// The atoms of a graph that are cut: ruled out, and so never missing.
+pub type AtomMask = Mask<AtomId>;
+
+impl<I: Cut> Mask<I> {
     /// Cuts none.
     #[must_use]
     pub fn none(graph: &Graph) -> Self {
-        Self(Bits::clear(graph.atoms()))
+        let count = I::count(graph);
+        Self {
+            words: vec![0; calls::mask_words(count)],
+            count,
+            of: PhantomData,
+        }
     }
 
     /// Cuts these.
     ///
     /// # Errors
-    /// An atom that the graph does not have.
-    pub fn of(graph: &Graph, atoms: impl IntoIterator<Item = AtomId>) -> Result<Self, Error> {
+    /// One that the graph does not have.
+    pub fn of(graph: &Graph, all: impl IntoIterator<Item = I>) -> Result<Self, Error> {
         let mut mask = Self::none(graph);
-        atoms.into_iter().try_for_each(|atom| mask.cut(atom))?;
+        all.into_iter().try_for_each(|one| mask.cut(one))?;
         Ok(mask)
     }
 
     /// # Errors
-    /// An atom that the graph does not have.
-    pub fn cut(&mut self, atom: AtomId) -> Result<(), Error> {
-        self.0.set(atom.0).then_some(()).ok_or(Error::NoAtom(atom))
+    /// One that the graph does not have.
+    pub fn cut(&mut self, one: I) -> Result<(), Error> {
+        let number = usize::from(one.number());
+        if number >= self.count {
+            return Err(one.unknown());
+        }
+        self.words[number / 64] |= 1 << (number % 64);
+        Ok(())
     }
 
     #[must_use]
-    pub fn contains(&self, atom: AtomId) -> bool {
-        bit(&self.0.words, atom.0)
+    pub fn contains(&self, one: I) -> bool {
+        bit(&self.words, one.number())
     }
 
     #[must_use]
     pub fn words(&self) -> &[u64] {
-        &self.0.words
+        &self.words
     }
 }
 
