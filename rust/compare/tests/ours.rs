@@ -94,37 +94,36 @@ mod fault {
         unsafe { raw::founded_prepare(graph, len, output.as_mut_ptr(), output_len, work, work_len) }
     }
 
-    pub unsafe extern "C" fn unused_bit(
-        graph: *const u16,
-        len: usize,
-        output: *mut u64,
-        output_len: usize,
-        work: *mut u16,
-        work_len: usize,
-    ) -> u32 {
-        let answer =
-            unsafe { raw::founded_prepare(graph, len, output, output_len, work, work_len) };
-        if answer == 0 && output_len > 0 {
-            unsafe { *output |= 1 << 63 };
-        }
-        answer
+    /// A preparation under this name whose output the body may spoil.
+    macro_rules! prepare {
+        ($name:ident, $output:ident, $output_len:ident, $answer:ident, $body:expr) => {
+            pub unsafe extern "C" fn $name(
+                graph: *const u16,
+                len: usize,
+                $output: *mut u64,
+                $output_len: usize,
+                work: *mut u16,
+                work_len: usize,
+            ) -> u32 {
+                let $answer = unsafe {
+                    raw::founded_prepare(graph, len, $output, $output_len, work, work_len)
+                };
+                unsafe { $body };
+                $answer
+            }
+        };
     }
 
-    pub unsafe extern "C" fn output_of_12(
-        graph: *const u16,
-        len: usize,
-        output: *mut u64,
-        output_len: usize,
-        work: *mut u16,
-        work_len: usize,
-    ) -> u32 {
-        let answer =
-            unsafe { raw::founded_prepare(graph, len, output, output_len, work, work_len) };
-        if answer >> 16 == 12 {
-            unsafe { output.write(0) };
+    prepare!(unused_bit, output, output_len, answer, {
+        if answer == 0 && output_len > 0 {
+            *output |= 1 << 63;
         }
-        answer
-    }
+    });
+    prepare!(output_of_12, output, output_len, answer, {
+        if answer >> 16 == 12 {
+            output.write(0);
+        }
+    });
 
     /// All ten words of a pass.
     type Pass = (
