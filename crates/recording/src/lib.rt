@@ -1,13 +1,10 @@
 // The words of a recording on standard input, 16 bits each, low byte first, read through a lent block.
-pub mod compare;
-pub mod outcome;
-pub mod scores;
+pub mod records;
 
 ghost use mathlib.Core.Path.{_≡_};
 ghost use mathlib.Core.Bool.{true, false, cond};
-ghost use Prim.Native.Nat.{_≤_, _+_, _*_, _/_, _%_, min};
+ghost use Prim.Native.Nat.{_+_, _*_, _/_, _%_, min};
 ghost use lib.Dec.{eqb};
-ghost use lib.ListN.{length};
 ghost use Rattle.recording.specs.Reading.{wordAt, Keeps};
 
 // The last word; where the next one stands in the block, and how many bytes are left from there; how many words are read.
@@ -52,7 +49,7 @@ pub fn wrong(r: Reader) -> Reader
 }
 
 // One more, and never past the largest.
-fn more(n: u64) -> u64
+pub fn more(n: u64) -> u64
     ensures { λ r. ⌜ r ≡ min (n + 1) 18446744073709551615 ⌝ }
 {
     if n < 18446744073709551615 { n + 1 } else { n }
@@ -132,14 +129,13 @@ pub fn expect_end(block: &mut [u8; 65536], r: Reader) -> Reader
     filled
 }
 
-// The next n words.
-pub fn read(block: &mut [u8; 65536], from: Reader, words: &mut [u16], n: usize) -> Reader
-    requires { ⌜ n ≤ length (now words) ⌝ }
+// Fills `words`.
+pub fn read(block: &mut [u8; 65536], from: Reader, words: &mut [u16]) -> Reader
     ensures { λ s. ⌜ Keeps from s ⌝ }
 {
     let mut r = from;
     let mut i: usize = 0;
-    while i < n {
+    while i < words.len() {
         r = next(block, r);
         words[i] = r.word;
         i += 1;

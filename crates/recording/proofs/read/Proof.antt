@@ -8,10 +8,10 @@ use Rattle.recording.proofs.read.Statement.{statement}
 use Rattle.recording.proofs.read.Tie as tie
 
 abbrev Inv-loop : tie.InvT-loop
-Inv-loop block₀ words₀ n r₀ i₀ block words r i = Keeps r₀ r × (length words ≡ length words₀)
+Inv-loop block₀ words₀ r₀ i₀ block words r i = Keeps r₀ r × (length words ≡ length words₀)
 
 abbrev μ-loop : tie.MeasureT-loop
-μ-loop block₀ words₀ n r₀ i₀ block words r i = n - i
+μ-loop block₀ words₀ r₀ i₀ block words r i = length words₀ - i
 
 loop-holds : tie.Need-loop-holds Inv-loop μ-loop
 loop-holds c = (λ h. refl, refl)
@@ -32,7 +32,10 @@ loop-less : tie.Need-loop-less Inv-loop μ-loop
 loop-less c = search needs
 
 loop-again : tie.Need-loop-again Inv-loop μ-loop
-loop-again c = (keeps-then _ _ _ (c .before .before .before .loop .inv .0) (c .next .ensures), search needs)
+loop-again c =
+    let c-next = c .next in
+    let c-loop = c .before .before .before .loop in
+    (keeps-then _ _ _ (c-loop .inv .0) (c-next .ensures), search needs)
 
 same-length : tie.Need-same-length Inv-loop μ-loop
 same-length c = search needs

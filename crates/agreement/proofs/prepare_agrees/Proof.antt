@@ -1,0 +1,44 @@
+use borrow.Author.Needs.{needs}
+use Rattle.agreement.proofs.prepare_agrees.Statement.{statement}
+use Rattle.agreement.proofs.prepare_agrees.Tie as tie
+
+set-all-wide-requires : tie.Need-set-all-wide-requires
+set-all-wide-requires c κs = search needs
+
+set-all-requires : tie.Need-set-all-requires
+set-all-requires c κs = search needs
+
+founded-prepare-requires : tie.Need-founded-prepare-requires
+founded-prepare-requires c κs = search needs
+
+outcome-agrees-requires : tie.Need-outcome-agrees-requires
+outcome-agrees-requires c κs = search needs
+
+same-length : tie.Need-same-length
+same-length c = search needs
+
+same-length-2 : tie.Need-same-length-2
+same-length-2 c = search needs
+
+returns : tie.Need-returns
+returns c =
+    let p1 = c .before .before .before .before .before .before .before in
+    record {
+      code = p1 .founded-prepare .result;
+      output = _;
+      work = _;
+      promised = rw (p1 .before .before .before .before .before .before .before .before .before .set-all-wide .ensures, p1 .before .before .before .before .before .set-all .ensures) at (p1 .founded-prepare .ensures);
+      told = c .outcome-agrees .ensures;
+    }
+
+pub prepare-agrees-spec : {M : Type 1} → statement M
+prepare-agrees-spec =
+    tie.close
+    (tie.spec
+    set-all-wide-requires
+    set-all-requires
+    founded-prepare-requires
+    outcome-agrees-requires
+    same-length
+    same-length-2
+    returns)
