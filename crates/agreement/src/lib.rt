@@ -93,10 +93,10 @@ pub fn needed_agrees(graph: &[u16], work: &mut [u16], number: u16, place: u16, r
 {
     memory::set_all(work, SOIL);
     let code = abi::founded_needed(graph, work);
-    if code != needed_code(number, place, reply) {
-        return false;
+    if code == needed_code(number, place, reply) {
+        return work_agrees(number, work);
     }
-    work_agrees(number, work)
+    false
 }
 
 pub fn prepare_agrees(

@@ -3,6 +3,12 @@ use Rattle.agreement.proofs.ReplyLaws.{first-no, second-says}
 use borrow.Author.Needs.{needs}
 use Rattle.agreement.proofs.needed_agrees.Statement.{statement}
 use Rattle.agreement.proofs.needed_agrees.Tie as tie
+use Rattle.agreement.proofs.needed_agrees.Reads as reads
+use Rattle.agreement.proofs.needed_agrees.Lts as lts
+use Rattle.abi.proofs.founded_needed.Reads as founded-needed-reads
+use Rattle.agreement.proofs.memory.set_all.Reads as set-all-reads
+use Rattle.agreement.proofs.needed_code.Reads as needed-code-reads
+use Rattle.agreement.proofs.work_agrees.Reads as work-agrees-reads
 
 set-all-requires : tie.Need-set-all-requires
 set-all-requires c κs = search needs
@@ -13,35 +19,44 @@ founded-needed-requires c κs = search needs
 needed-code-requires : tie.Need-needed-code-requires
 needed-code-requires c κs = search needs
 
+work-agrees-requires : tie.Need-work-agrees-requires
+work-agrees-requires c κs = search needs
+
 same-length : tie.Need-same-length
 same-length c = search needs
 
 returns : tie.Need-returns
 returns c =
-    let p1 = c .before .before .before .before in
-    let c-code = c .before .needed-code in
+    let c-work-agrees = c .work-agrees in
+    let c-if1 = c .before .before .if1 in
+    let c-needed-code = c .before .before .before .needed-code in
+    let p1 = c .before .before .before .before .before .before in
+    let c-founded-needed = p1 .founded-needed in
+    let p2 = p1 .before .before .before .before in
+    let c-set-all = p2 .set-all in
     record {
-      code = p1 .founded-needed .result;
+      code = c-founded-needed .result;
       work = _;
-      promised = rw (p1 .before .before .before .before .set-all .ensures) at (p1 .founded-needed .ensures);
-      told = first-no (λ e. c .if1 .taken (e ∙ sym (c-code .ensures)));
+      promised = rw (c-set-all .ensures) at (c-founded-needed .ensures);
+      told = second-says (c-if1 .taken ∙ c-needed-code .ensures) (c-work-agrees .ensures);
     }
-
-work-agrees-requires : tie.Need-work-agrees-requires
-work-agrees-requires c κs = search needs
 
 same-length-2 : tie.Need-same-length-2
 same-length-2 c = search needs
 
 returns-2 : tie.Need-returns-2
 returns-2 c =
-    let p1 = c .before .before .before .before .before .before in
-    let c-code = c .before .before .before .needed-code in
+    let c-if1 = c .if1 in
+    let c-needed-code = c .before .needed-code in
+    let p1 = c .before .before .before .before in
+    let c-founded-needed = p1 .founded-needed in
+    let p2 = p1 .before .before .before .before in
+    let c-set-all = p2 .set-all in
     record {
-      code = p1 .founded-needed .result;
+      code = c-founded-needed .result;
       work = _;
-      promised = rw (p1 .before .before .before .before .set-all .ensures) at (p1 .founded-needed .ensures);
-      told = second-says (c .before .before .if1 .left ∙ c-code .ensures) (c .work-agrees .ensures);
+      promised = rw (c-set-all .ensures) at (c-founded-needed .ensures);
+      told = first-no (λ e. c-if1 .left (e ∙ sym (c-needed-code .ensures)));
     }
 
 pub needed-agrees-spec : {M : Type 1} → statement M
@@ -51,8 +66,8 @@ needed-agrees-spec =
     set-all-requires
     founded-needed-requires
     needed-code-requires
+    work-agrees-requires
     same-length
     returns
-    work-agrees-requires
     same-length-2
     returns-2)
