@@ -161,27 +161,30 @@ fn read_output(block: &mut [u8; 65536], r: Reader, number: u16, n: usize) -> Wid
     }
 }
 
-// Of preparation, and of the pass after its masks. The last reader is the output's.
+// Of preparation, and of the pass after its masks.
 pub struct Prepare {
     pub work: usize,
     pub number: u16,
     pub listed: Places,
     pub output: Wide,
+    pub reader: Reader,
 }
 
 pub fn read_prepare(block: &mut [u8; 65536], r: Reader, room: usize) -> Prepare
-    ensures { λ s. ⌜ PrepareFits room s × Keeps r (s .output .reader) ⌝ }
+    ensures { λ s. ⌜ PrepareFits room s × Keeps r (s .reader) ⌝ }
 {
     let output = read_length(block, r, 32);
     let work = read_length(block, output.reader, room);
     let number = super::next(block, work.reader);
     let listed = read_places(block, number, number.word);
     let words = read_output(block, listed.reader, number.word, output.length);
+    let reader = words.reader;
     Prepare {
         work: work.length,
         number: number.word,
         listed: listed,
         output: words,
+        reader: reader,
     }
 }
 
@@ -190,18 +193,21 @@ pub struct Complete {
     pub never: Wide,
     pub atom_never: Wide,
     pub rest: Prepare,
+    pub reader: Reader,
 }
 
 pub fn read_complete(block: &mut [u8; 65536], r: Reader, room: usize) -> Complete
-    ensures { λ s. ⌜ CompleteFits room s × Keeps r (s .rest .output .reader) ⌝ }
+    ensures { λ s. ⌜ CompleteFits room s × Keeps r (s .reader) ⌝ }
 {
     let never = read_mask(block, r);
     let atom_never = read_mask(block, never.reader);
     let rest = read_prepare(block, atom_never.reader, room);
+    let reader = rest.reader;
     Complete {
         never: never,
         atom_never: atom_never,
         rest: rest,
+        reader: reader,
     }
 }
 
@@ -253,15 +259,18 @@ fn read_text(block: &mut [u8; 65536], r: Reader) -> Text
 pub struct Run {
     pub input: usize,
     pub text: Text,
+    pub reader: Reader,
 }
 
 pub fn read_run(block: &mut [u8; 65536], r: Reader, bytes: &mut [u8]) -> Run
-    ensures { λ s. ⌜ (s .input ≤ length (now (bytes .entry))) × (s .text .length ≤ length (s .text .bytes)) × Keeps r (s .text .reader) ⌝ }
+    ensures { λ s. ⌜ (s .input ≤ length (now (bytes .entry))) × (s .text .length ≤ length (s .text .bytes)) × Keeps r (s .reader) ⌝ }
 {
     let input = read_input(block, r, bytes);
     let text = read_text(block, input.reader);
+    let reader = text.reader;
     Run {
         input: input.length,
         text: text,
+        reader: reader,
     }
 }

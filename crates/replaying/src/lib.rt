@@ -40,14 +40,11 @@ fn score_call(block: &mut [u8; 65536], r: Reader, graph: &[u16], scores: &mut [u
     }
     if n == 3 {
         let prepare = scoring::score_prepare(block, r, graph, &mut work, scores);
-        let output = prepare.output;
-        return output.reader;
+        return prepare.reader;
     }
     if n == 4 {
         let complete = scoring::score_complete(block, r, graph, &mut work, scores);
-        let rest = complete.rest;
-        let output = rest.output;
-        return output.reader;
+        return complete.reader;
     }
     recording::wrong(r)
 }
@@ -133,8 +130,7 @@ fn replay_run(block: &mut [u8; 65536], r: Reader, scores: &mut [u64; 10], record
     let before = scores[9];
     let run = scoring::score_run(block, r, &mut bytes, scores);
     tell(scores, 4, before, record);
-    let text = run.text;
-    text.reader
+    run.reader
 }
 
 fn replay_record(

@@ -100,11 +100,10 @@ pub fn score_prepare(
     work: &mut [u16],
     scores: &mut [u64; 10],
 ) -> Prepare
-    ensures { λ s. ⌜ Keeps r (s .output .reader) × Scored (PrepareSaid (now (graph .entry)) s) (s .output .reader .bad) 2 (now (scores .entry)) (now (scores .exit)) ⌝ }
+    ensures { λ s. ⌜ Keeps r (s .reader) × Scored (PrepareSaid (now (graph .entry)) s) (s .reader .bad) 2 (now (scores .entry)) (now (scores .exit)) ⌝ }
 {
     let said = records::read_prepare(block, r, work.len());
-    let output = said.output;
-    let reader = output.reader;
+    let reader = said.reader;
     if reader.bad {
         return said;
     }
@@ -151,12 +150,10 @@ pub fn score_complete(
     work: &mut [u16],
     scores: &mut [u64; 10],
 ) -> Complete
-    ensures { λ s. ⌜ Keeps r (s .rest .output .reader) × Scored (CompleteSaid (now (graph .entry)) s) (s .rest .output .reader .bad) 3 (now (scores .entry)) (now (scores .exit)) ⌝ }
+    ensures { λ s. ⌜ Keeps r (s .reader) × Scored (CompleteSaid (now (graph .entry)) s) (s .reader .bad) 3 (now (scores .entry)) (now (scores .exit)) ⌝ }
 {
     let said = records::read_complete(block, r, work.len());
-    let rest = said.rest;
-    let output = rest.output;
-    let reader = output.reader;
+    let reader = said.reader;
     if reader.bad {
         return said;
     }
@@ -171,14 +168,14 @@ pub fn score_run(
     bytes: &mut [u8],
     scores: &mut [u64; 10],
 ) -> Run
-    ensures { λ s. ⌜ Keeps r (s .text .reader) × Scored (RunSaid (now (bytes .exit)) s) (s .text .reader .bad) 4 (now (scores .entry)) (now (scores .exit)) ⌝ }
+    ensures { λ s. ⌜ Keeps r (s .reader) × Scored (RunSaid (now (bytes .exit)) s) (s .reader .bad) 4 (now (scores .entry)) (now (scores .exit)) ⌝ }
 {
     let said = records::read_run(block, r, bytes);
-    let text = said.text;
-    let reader = text.reader;
+    let reader = said.reader;
     if reader.bad {
         return said;
     }
+    let text = said.text;
     let n = said.input;
     let k = text.length;
     let expected = text.bytes;

@@ -3,12 +3,6 @@ use Rattle.agreement.proofs.ReplyLaws.{first-no, second-says}
 use borrow.Author.Needs.{needs}
 use Rattle.agreement.proofs.needed_agrees.Statement.{statement}
 use Rattle.agreement.proofs.needed_agrees.Tie as tie
-use Rattle.agreement.proofs.needed_agrees.Reads as reads
-use Rattle.agreement.proofs.needed_agrees.Lts as lts
-use Rattle.abi.proofs.founded_needed.Reads as founded-needed-reads
-use Rattle.agreement.proofs.memory.set_all.Reads as set-all-reads
-use Rattle.agreement.proofs.needed_code.Reads as needed-code-reads
-use Rattle.agreement.proofs.work_agrees.Reads as work-agrees-reads
 
 set-all-requires : tie.Need-set-all-requires
 set-all-requires c κs = search needs

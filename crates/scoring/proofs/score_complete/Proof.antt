@@ -9,8 +9,7 @@ read-complete-requires c κs = search needs
 returns : tie.Need-returns
 returns c =
     let c-if1 = c .if1 in
-    let p1 = c .before .before .before .before in
-    let c-read-complete = p1 .read-complete in
+    let c-read-complete = c .before .before .read-complete in
     (c-read-complete .ensures .1, skipped (c-if1 .taken))
 
 complete-agrees-requires : tie.Need-complete-agrees-requires
@@ -28,7 +27,7 @@ returns-2 c =
     let p1 = c .before .before .before .before in
     let c-complete-agrees = p1 .complete-agrees in
     let c-if1 = p1 .before .before .if1 in
-    let p2 = p1 .before .before .before .before .before .before in
+    let p2 = p1 .before .before .before .before in
     let c-read-complete = p2 .read-complete in
     (c-read-complete .ensures .1, replayed (c-complete-agrees .result) (c-if1 .left) (c-complete-agrees .ensures) (c-score .ensures))
 

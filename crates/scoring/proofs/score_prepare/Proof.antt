@@ -9,7 +9,7 @@ read-prepare-requires c κs = search needs
 returns : tie.Need-returns
 returns c =
     let c-if1 = c .if1 in
-    let c-read-prepare = c .before .before .before .read-prepare in
+    let c-read-prepare = c .before .before .read-prepare in
     (c-read-prepare .ensures .1, skipped (c-if1 .taken))
 
 prepare-agrees-requires : tie.Need-prepare-agrees-requires
@@ -27,7 +27,7 @@ returns-2 c =
     let p1 = c .before .before .before .before in
     let c-prepare-agrees = p1 .prepare-agrees in
     let c-if1 = p1 .before .before .if1 in
-    let p2 = p1 .before .before .before .before .before in
+    let p2 = p1 .before .before .before .before in
     let c-read-prepare = p2 .read-prepare in
     (c-read-prepare .ensures .1, replayed (c-prepare-agrees .result) (c-if1 .left) (c-prepare-agrees .ensures) (c-score .ensures))
 

@@ -15,7 +15,7 @@ same-length c = search needs
 returns : tie.Need-returns
 returns c =
     let c-if1 = c .if1 in
-    let p1 = c .before .before .before .before .before in
+    let p1 = c .before .before .before .before in
     let c-read-run = p1 .read-run in
     (c-read-run .ensures .2, skipped (c-if1 .taken))
 
@@ -50,9 +50,9 @@ returns-2 : tie.Need-returns-2
 returns-2 c =
     let c-score = c .score in
     let c-program-agrees = c .before .before .program-agrees in
-    let p1 = c .before .before .before .before .before .before in
+    let p1 = c .before .before .before .before .before .before .before in
     let c-if1 = p1 .if1 in
-    let p2 = p1 .before .before .before .before .before in
+    let p2 = p1 .before .before .before .before in
     let c-read-run = p2 .read-run in
     (c-read-run .ensures .2, replayed (c-program-agrees .result) (c-if1 .left) (c-program-agrees .ensures) (c-score .ensures))
 

@@ -14,9 +14,9 @@ read-prepare-requires c κs = search needs
 
 returns : tie.Need-returns
 returns c =
-    let c-read-prepare = c .read-prepare in
-    let c-read-mask2 = c .before .before .read-mask2 in
-    let p1 = c .before .before .before .before in
+    let c-read-prepare = c .before .read-prepare in
+    let c-read-mask2 = c .before .before .before .read-mask2 in
+    let p1 = c .before .before .before .before .before in
     let c-read-mask = p1 .read-mask in
     ((c-read-mask .ensures .0, c-read-mask2 .ensures .0, c-read-prepare .ensures .0), keeps-then _ _ _ (c-read-mask .ensures .1) (keeps-then _ _ _ (c-read-mask2 .ensures .1) (c-read-prepare .ensures .1)))
 

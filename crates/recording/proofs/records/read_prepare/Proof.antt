@@ -20,9 +20,9 @@ read-output-requires c κs = search needs
 
 returns : tie.Need-returns
 returns c =
-    let c-read-output = c .read-output in
-    let c-read-places = c .before .before .read-places in
-    let p1 = c .before .before .before .before in
+    let c-read-output = c .before .read-output in
+    let c-read-places = c .before .before .before .read-places in
+    let p1 = c .before .before .before .before .before in
     let c-next = p1 .next in
     let c-read-length2 = p1 .before .before .read-length2 in
     let p2 = p1 .before .before .before .before in

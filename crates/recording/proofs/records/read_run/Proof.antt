@@ -14,8 +14,8 @@ same-length c = search needs
 
 returns : tie.Need-returns
 returns c =
-    let c-read-text = c .read-text in
-    let p1 = c .before .before .before .before in
+    let c-read-text = c .before .read-text in
+    let p1 = c .before .before .before .before .before in
     let c-read-input = p1 .read-input in
     (c-read-input .ensures .0, c-read-text .ensures .0, keeps-then _ _ _ (c-read-input .ensures .1) (c-read-text .ensures .1))
 
