@@ -2,6 +2,7 @@ use mathlib.Core.Path.{sym}
 use native.Mathlib.Omega.{arith}
 use lib.Seq.{length-take-le}
 use Rattle.recording.proofs.RoomLaws.{front-fits}
+use Rattle.recording.proofs.KeepLaws.{keeps-then}
 use borrow.Author.Needs.{needs}
 use Rattle.replaying.proofs.replay_graph.Statement.{statement}
 use Rattle.replaying.proofs.replay_graph.Tie as tie
@@ -16,7 +17,10 @@ wrong-requires : tie.Need-wrong-requires
 wrong-requires c κs = search needs
 
 returns : tie.Need-returns
-returns c = search needs
+returns c =
+    let c-wrong = c .wrong in
+    let c-next = c .before .before .before .next in
+    keeps-then _ _ _ (c-next .ensures) (c-wrong .ensures .0)
 
 graph-room-requires : tie.Need-graph-room-requires
 graph-room-requires c κs = search needs
@@ -50,7 +54,13 @@ replay-calls-requires : tie.Need-replay-calls-requires
 replay-calls-requires c κs = search needs
 
 returns-2 : tie.Need-returns-2
-returns-2 c = search needs
+returns-2 c =
+    let c-replay-calls = c .replay-calls in
+    let p1 = c .before .before .before .before .before in
+    let c-read = p1 .read in
+    let p2 = p1 .before .before .before .before .before .before in
+    let c-next = p2 .next in
+    keeps-then _ _ _ (c-next .ensures) (keeps-then _ _ _ (c-read .ensures) (c-replay-calls .ensures))
 
 pub replay-graph-spec : {M : Type 1} → statement M
 replay-graph-spec =

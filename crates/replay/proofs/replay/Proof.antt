@@ -2,8 +2,8 @@ use Rattle.theory.proofs.SetLaws.{clash}
 use Prim.Native.Nat.{_≤_, _-_}
 use native.Mathlib.Omega.{arith}
 use borrow.Author.Needs.{needs}
-use Rattle.replaying.proofs.replay_all.Statement.{statement}
-use Rattle.replaying.proofs.replay_all.Tie as tie
+use Rattle.replay.proofs.replay.Statement.{statement}
+use Rattle.replay.proofs.replay.Tie as tie
 
 abbrev Inv-loop : tie.InvT-loop
 Inv-loop block₀ scores₀ r₀ n i₀ block scores r i = i ≤ n
@@ -50,8 +50,8 @@ expect-end-requires c κs = search needs
 returns-2 : tie.Need-returns-2 Inv-loop μ-loop
 returns-2 c = c .expect-end .ensures .1
 
-pub replay-all-spec : {M : Type 1} → statement M
-replay-all-spec =
+pub replay-spec : {M : Type 1} → statement M
+replay-spec =
     tie.close
     (tie.spec
     Inv-loop
