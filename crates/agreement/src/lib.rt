@@ -1,4 +1,4 @@
-// Whether a call answers, and leaves, what is recorded of it.
+// Whether a call answers, and leaves, what is recorded of it. The call is made here, over output and work area that are soiled first; nothing is read or written.
 mod memory;
 
 ghost use mathlib.Core.Path.{_≡_};
@@ -60,6 +60,7 @@ fn work_agrees(number: u16, work: &[u16]) -> bool
     memory::all_are(work, SOIL)
 }
 
+// What preparation or pass answered and left.
 fn outcome_agrees(
     number: u16,
     places: &[u16],
@@ -82,12 +83,14 @@ fn outcome_agrees(
     work_agrees(number, work)
 }
 
+// The graph check, beside number and place.
 pub fn check_agrees(graph: &[u16], number: u16, place: u16) -> bool
     ensures { λ r. ⌜ CheckAgrees (now (graph .entry)) number place r ⌝ }
 {
     abi::founded_check(graph) == code(number, place)
 }
 
+// The loop test, beside number and place, or the reply.
 pub fn needed_agrees(graph: &[u16], work: &mut [u16], number: u16, place: u16, reply: u16) -> bool
     ensures { λ r. ⌜ NeededAgrees (now (graph .entry)) (length (now (work .entry))) number place reply r ⌝ }
 {
@@ -99,6 +102,7 @@ pub fn needed_agrees(graph: &[u16], work: &mut [u16], number: u16, place: u16, r
     false
 }
 
+// Preparation, beside number and places, or the output's words.
 pub fn prepare_agrees(
     graph: &[u16],
     output: &mut [u64],
@@ -115,6 +119,7 @@ pub fn prepare_agrees(
     outcome_agrees(number, places, words, code, output, work)
 }
 
+// The pass, beside the same.
 pub fn complete_agrees(
     graph: &[u16],
     never: &[u64],

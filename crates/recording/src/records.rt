@@ -1,4 +1,4 @@
-// What is recorded of a call or of a run of the program (the format is crates/replay/README.md's), read into values. Where the recording is malformed the
+// What is recorded of a call or of a run of the program (crates/replay/README.md has the format), read into values. Where the recording is malformed the
 // reader that comes back is bad, and the lengths fit their rooms all the same.
 ghost use mathlib.Core.Path.{_≡_};
 ghost use mathlib.Core.Bool.{cond};
