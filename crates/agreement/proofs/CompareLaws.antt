@@ -1,16 +1,20 @@
--- Two lists looked through side by side, and a list looked through for a number: what is known after i entries, one entry more, and the answers.
+-- A list that is filled, two lists looked through side by side, and a list looked through for a number: what is known after i entries, one entry more, and the answers.
 use mathlib.Core.Path.{_≡_, refl, sym, ap, _∙_}
 use mathlib.Core.Bool.{true, false}
-use mathlib.Core.List.{List, [], _∷_, List·Memᴰ·head, List·Memᴰ·tail, List·Memᴰ·not-nil, List·Memᴰ·cases-cons}
+use mathlib.Core.List.{List, [], _∷_, _++_, append-nil, List·Memᴰ·head, List·Memᴰ·tail, List·Memᴰ·not-nil, List·Memᴰ·cases-cons}
 use mathlib.Core.Logic.{_↔_, ⊎-elim}
 use native.Mathlib.Nat.{not-suc-le-zero}
 use Prim.Native.Nat.{ℕ, zero, suc, _+_, _<_, _≤_}
 use native.Mathlib.Omega.{arith}
-use lib.ListN.{length, getD, replicate, getD-replicate}
-use lib.Seq.{ext-getD}
+use lib.ListN.{length, getD, drop, replicate, getD-replicate}
+use lib.Seq.{ext-getD, drop-length}
 use borrow.Author.Count.{below-none, below-more}
 use Rattle.theory.specs.Sets.{Mem}
 use Rattle.theory.proofs.SetLaws.{clash}
+
+-- a list filled to its end has one word throughout
+pub filled : (a b : List ℕ) (x i : ℕ) → a ≡ replicate i x ++ drop i b → i ≡ length b → a ≡ replicate (length b) x
+filled a b x i h e = rw e at h ∙ ap (λ (l : List ℕ). replicate (length b) x ++ l) (drop-length b) ∙ append-nil _
 
 pub no : {A : Type 0} → (A → ⊥) → (false ≡ true) ↔ A
 no h = (λ t. clash t refl, λ a. absurd (h a))

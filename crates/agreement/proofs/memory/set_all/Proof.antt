@@ -1,11 +1,11 @@
-use mathlib.Core.Path.{_≡_, refl, ap, _∙_}
-use mathlib.Core.List.{List, _++_, append-nil}
+use mathlib.Core.Path.{_≡_, refl}
+use mathlib.Core.List.{_++_}
 use Prim.Native.Nat.{_≤_, _-_}
 use native.Mathlib.Omega.{arith}
 use denote.Ref.{now}
 use lib.ListN.{length, drop, replicate}
-use lib.Seq.{drop-length}
 use borrow.Author.Fill.{fill-more}
+use Rattle.agreement.proofs.CompareLaws.{filled}
 use borrow.Author.Needs.{needs}
 use Rattle.agreement.proofs.memory.set_all.Statement.{statement}
 use Rattle.agreement.proofs.memory.set_all.Tie as tie
@@ -40,10 +40,7 @@ same-length : tie.Need-same-length Inv-loop μ-loop
 same-length c = search needs
 
 returns : tie.Need-returns Inv-loop μ-loop
-returns c = let c-loop = c .before .loop in
-    let c-args = c .before .before .args in
-    let e : c-loop .i ≡ length (now (c-args .words)) = omega arith in
-    rw e at (c-loop .inv .2) ∙ ap (λ (l : List _). replicate (length (now (c-args .words))) (c-args .word) ++ l) (drop-length (now (c-args .words))) ∙ append-nil _
+returns c = filled _ (now (c .before .before .args .words)) _ (c .before .loop .i) (c .before .loop .inv .2) (omega arith)
 
 pub set-all-spec : {M : Type 1} → statement M
 set-all-spec =
