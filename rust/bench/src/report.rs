@@ -83,7 +83,7 @@ impl Bar {
 
 /// The loop test is at most as slow as the Rust, the pass takes at most 0.8 of
 /// its time, the check at the largest graph at most 1.5 times plain Rust's; and
-/// the loop test's time a vertex and edge hardly grows with the graph.
+/// time a vertex and edge of the loop test and of the pass hardly grows with the graph.
 pub fn bars(measured: &[Measured]) -> Vec<Bar> {
     let mut bars = Vec::new();
     let largest = measured.iter().map(|cell| cell.size).max();
@@ -100,11 +100,15 @@ pub fn bars(measured: &[Measured]) -> Vec<Bar> {
             most,
         });
     }
-    for loops in [false, true] {
+    let grown = [Call::LoopTest, Call::Pass];
+    for (call, loops) in grown
+        .into_iter()
+        .flat_map(|call| [(call, false), (call, true)])
+    {
         let of = |size: usize| {
             measured
                 .iter()
-                .find(|cell| (cell.size, cell.loops, cell.call) == (size, loops, Call::LoopTest))
+                .find(|cell| (cell.size, cell.loops, cell.call) == (size, loops, call))
         };
         if let (Some(small), Some(large)) = (of(64), of(1_024)) {
             bars.push(Bar {

@@ -42,7 +42,7 @@ fn broken(all: &[Measured]) -> Vec<String> {
 
 #[test]
 fn a_bar_is_broken_by_its_own_figure_alone() {
-    assert_eq!(report::bars(&figures()).len(), 8 + 8 + 2 + 2);
+    assert_eq!(report::bars(&figures()).len(), 8 + 8 + 2 + 4);
     assert_eq!(broken(&figures()), [""; 0]);
     let with = |size, loops, call, ratio| {
         let mut all = figures();
@@ -68,12 +68,16 @@ fn a_bar_is_broken_by_its_own_figure_alone() {
 }
 
 #[test]
-fn the_loop_test_may_not_grow_with_the_graph() {
+fn loop_test_and_pass_may_not_grow_with_the_graph() {
     let mut all = figures();
     pick(&mut all, 1_024, false, Call::LoopTest).ours *= 1.6;
+    pick(&mut all, 1_024, true, Call::Pass).ours *= 1.6;
     assert_eq!(
         broken(&all),
-        ["loop test at 1,024 without loops: time a vertex and edge by that at 64"]
+        [
+            "loop test at 1,024 without loops: time a vertex and edge by that at 64",
+            "pass at 1,024 with loops: time a vertex and edge by that at 64"
+        ]
     );
 }
 
