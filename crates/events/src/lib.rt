@@ -1,6 +1,5 @@
 // The entries of a vertex's row, one after the other, each handed to one step. A step either settles an entry, one thing fewer to wait for, or
 // collects it, a vertex more; the walk over rows and chains is the same.
-ghost use mathlib.Core.Path.{_≡_};
 ghost use mathlib.Core.List.{[], _∷_};
 ghost use Prim.Native.Nat.{ℕ, _+_, _<_, _≤_};
 ghost use lib.ListN.{length, getD};
@@ -9,10 +8,9 @@ ghost use Rattle.theory.specs.Words.{theoryOf};
 ghost use Rattle.theory.specs.Accepted.{Accepted, edition1};
 ghost use Rattle.theory.specs.Rows.{flatMap, succs};
 ghost use Rattle.theory.specs.Drive.{Follows, Drives};
-ghost use Rattle.area.specs.Layout.{Laid, Based};
+ghost use Rattle.area.specs.Layout.{Based};
 ghost use Rattle.adjacency.specs.Tables.{startAt, rowAt};
 ghost use Rattle.events.specs.Held.{Held, shifted, Spanned, Named, Tables};
-ghost use Rattle.area.specs.Marks.{markOf};
 ghost use Rattle.events.specs.declared.Event.the-variants.{Settle, Collect};
 ghost use Rattle.events.specs.Run.{Running, Ran};
 ghost use Rattle.theory.specs.Closure.{Mode};

@@ -1,5 +1,4 @@
 // The words of a recording on standard input, 16 bits each, low byte first, read through a lent block.
-pub mod records;
 
 ghost use mathlib.Core.Path.{_≡_};
 ghost use mathlib.Core.Bool.{true, false, cond};

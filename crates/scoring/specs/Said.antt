@@ -3,13 +3,13 @@ use mathlib.Core.Bool.{Bool}
 use mathlib.Core.List.{List}
 use Prim.Native.Nat.{ℕ}
 use lib.ListN.{take}
-use Rattle.recording.specs.declared.records.Check.{Check}
-use Rattle.recording.specs.declared.records.Needed.{Needed}
-use Rattle.recording.specs.declared.records.Wide.{Wide}
-use Rattle.recording.specs.declared.records.Places.{Places}
-use Rattle.recording.specs.declared.records.Prepare.{Prepare}
-use Rattle.recording.specs.declared.records.Complete.{Complete}
-use Rattle.recording.specs.declared.records.Run.{Run}
+use Rattle.records.specs.declared.Check.{Check}
+use Rattle.records.specs.declared.Needed.{Needed}
+use Rattle.records.specs.declared.Wide.{Wide}
+use Rattle.records.specs.declared.Places.{Places}
+use Rattle.records.specs.declared.Prepare.{Prepare}
+use Rattle.records.specs.declared.Complete.{Complete}
+use Rattle.records.specs.declared.Run.{Run}
 use Rattle.agreement.specs.Agreement.{CheckAgrees, NeededAgrees, PrepareAgrees, CompleteAgrees, ProgramAgrees}
 
 abbrev pub wordsOf : Wide → List ℕ

@@ -4,16 +4,15 @@ ghost use mathlib.Core.Path.{_≡_};
 ghost use Prim.Native.Nat.{_<_};
 ghost use lib.ListN.{length};
 ghost use Rattle.recording.specs.Reading.{Keeps};
-ghost use Rattle.recording.specs.Records.{PrepareFits, CompleteFits};
+ghost use Rattle.records.specs.Records.{PrepareFits, CompleteFits};
 ghost use Rattle.scoring.specs.Scores.{counted, scored, Scored};
 ghost use Rattle.scoring.specs.Said.{CheckSaid, NeededSaid, PrepareSaid, CompleteSaid, RunSaid};
 use recording::Reader;
-use recording::records;
-use recording::records::Check;
-use recording::records::Complete;
-use recording::records::Needed;
-use recording::records::Prepare;
-use recording::records::Run;
+use records::Check;
+use records::Complete;
+use records::Needed;
+use records::Prepare;
+use records::Run;
 
 fn count(scores: &mut [u64; 10], at: usize)
     requires { ⌜ at < 10 ⌝ }

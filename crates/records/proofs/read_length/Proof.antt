@@ -1,8 +1,8 @@
 use native.Mathlib.Omega.{arith}
 use Rattle.recording.proofs.KeepLaws.{keeps-then}
 use borrow.Author.Needs.{needs}
-use Rattle.recording.proofs.records.read_length.Statement.{statement}
-use Rattle.recording.proofs.records.read_length.Tie as tie
+use Rattle.records.proofs.read_length.Statement.{statement}
+use Rattle.records.proofs.read_length.Tie as tie
 
 next-requires : tie.Need-next-requires
 next-requires c κs = search needs

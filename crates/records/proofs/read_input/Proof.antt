@@ -1,10 +1,10 @@
 use mathlib.Core.Path.{sym}
 use native.Mathlib.Omega.{arith}
 use lib.Seq.{length-take-le}
 use Rattle.recording.proofs.KeepLaws.{keeps-then}
 use borrow.Author.Needs.{needs}
-use Rattle.recording.proofs.records.read_input.Statement.{statement}
-use Rattle.recording.proofs.records.read_input.Tie as tie
+use Rattle.records.proofs.read_input.Statement.{statement}
+use Rattle.records.proofs.read_input.Tie as tie
 
 next-requires : tie.Need-next-requires
 next-requires c κs = search needs

@@ -1,9 +1,8 @@
 use mathlib.Core.Path.{refl}
 use native.Mathlib.Omega.{arith}
 use borrow.Author.Tests.{ne-eqb}
-use borrow.Author.Needs.{needs}
-use Rattle.recording.proofs.records.most_places.Statement.{statement}
-use Rattle.recording.proofs.records.most_places.Tie as tie
+use Rattle.records.proofs.most_places.Statement.{statement}
+use Rattle.records.proofs.most_places.Tie as tie
 
 returns : tie.Need-returns
 returns c =

@@ -1,7 +1,7 @@
 use Rattle.recording.proofs.KeepLaws.{keeps-then}
 use borrow.Author.Needs.{needs}
-use Rattle.recording.proofs.records.read_check.Statement.{statement}
-use Rattle.recording.proofs.records.read_check.Tie as tie
+use Rattle.records.proofs.read_check.Statement.{statement}
+use Rattle.records.proofs.read_check.Tie as tie
 
 next-requires : tie.Need-next-requires
 next-requires c κs = search needs

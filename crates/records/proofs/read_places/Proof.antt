@@ -1,11 +1,11 @@
 use mathlib.Core.Path.{sym}
 use native.Mathlib.Omega.{arith}
 use lib.Seq.{length-take-le}
 use Rattle.recording.proofs.RoomLaws.{front-fits}
 use Rattle.recording.proofs.KeepLaws.{keeps-then}
 use borrow.Author.Needs.{needs}
-use Rattle.recording.proofs.records.read_places.Statement.{statement}
-use Rattle.recording.proofs.records.read_places.Tie as tie
+use Rattle.records.proofs.read_places.Statement.{statement}
+use Rattle.records.proofs.read_places.Tie as tie
 
 most-places-requires : tie.Need-most-places-requires
 most-places-requires c κs = search needs

@@ -5,9 +5,9 @@ ghost use mathlib.Core.Bool.{cond};
 ghost use Prim.Native.Nat.{_≤_};
 ghost use lib.Dec.{eqb};
 ghost use lib.ListN.{length};
 ghost use Rattle.recording.specs.Reading.{Keeps};
-ghost use Rattle.recording.specs.Records.{WideFits, PrepareFits, CompleteFits};
-use super::Reader;
+ghost use Rattle.records.specs.Records.{WideFits, PrepareFits, CompleteFits};
+use recording::Reader;
 
 fn place_room() -> [u16; 1024]
     ensures { λ r. ⌜ length r ≡ 1024 ⌝ }
@@ -36,8 +36,8 @@ pub struct Check {
 pub fn read_check(block: &mut [u8; 65536], r: Reader) -> Check
     ensures { λ s. ⌜ Keeps r (s .reader) ⌝ }
 {
-    let number = super::next(block, r);
-    let place = super::next(block, number);
+    let number = recording::next(block, r);
+    let place = recording::next(block, number);
     Check {
         number: number.word,
         place: place.word,
@@ -54,12 +54,12 @@ pub struct Length {
 fn read_length(block: &mut [u8; 65536], r: Reader, most: usize) -> Length
     ensures { λ s. ⌜ (s .length ≤ most) × Keeps r (s .reader) ⌝ }
 {
-    let length = super::next(block, r);
+    let length = recording::next(block, r);
     let n = length.word as usize;
     if most < n {
         return Length {
             length: 0,
-            reader: super::wrong(length),
+            reader: recording::wrong(length),
         };
     }
     Length {
@@ -80,9 +80,9 @@ pub fn read_needed(block: &mut [u8; 65536], r: Reader, room: usize) -> Needed
     ensures { λ s. ⌜ (s .work ≤ room) × Keeps r (s .reader) ⌝ }
 {
     let work = read_length(block, r, room);
-    let number = super::next(block, work.reader);
-    let place = super::next(block, number);
-    let reply = super::next(block, place);
+    let number = recording::next(block, work.reader);
+    let place = recording::next(block, number);
+    let reply = recording::next(block, place);
     Needed {
         work: work.length,
         number: number.word,
@@ -111,7 +111,7 @@ fn read_places(block: &mut [u8; 65536], r: Reader, number: u16) -> Places
     let count = read_length(block, r, most_places(number));
     let n = count.length;
     let mut places = place_room();
-    let whole = super::read(block, count.reader, &mut places[..n]);
+    let whole = recording::read(block, count.reader, &mut places[..n]);
     Places {
         count: n,
         places: places,
@@ -131,7 +131,7 @@ fn read_words(block: &mut [u8; 65536], r: Reader, n: usize) -> Wide
     ensures { λ s. ⌜ WideFits s × Keeps r (s .reader) ⌝ }
 {
     let mut words = wide_room();
-    let whole = super::read_wide(block, r, &mut words[..n]);
+    let whole = recording::read_wide(block, r, &mut words[..n]);
     Wide {
         length: n,
         words: words,
@@ -175,7 +175,7 @@ pub fn read_prepare(block: &mut [u8; 65536], r: Reader, room: usize) -> Prepare
 {
     let output = read_length(block, r, 32);
     let work = read_length(block, output.reader, room);
-    let number = super::next(block, work.reader);
+    let number = recording::next(block, work.reader);
     let listed = read_places(block, number, number.word);
     let words = read_output(block, listed.reader, number.word, output.length);
     let reader = words.reader;
@@ -215,16 +215,16 @@ pub fn read_complete(block: &mut [u8; 65536], r: Reader, room: usize) -> Complet
 fn read_input(block: &mut [u8; 65536], r: Reader, bytes: &mut [u8]) -> Length
     ensures { λ s. ⌜ (s .length ≤ length (now (bytes .entry))) × Keeps r (s .reader) ⌝ }
 {
-    let low = super::next(block, r);
-    let high = super::next(block, low);
+    let low = recording::next(block, r);
+    let high = recording::next(block, low);
     let n = low.word as usize + 65536 * (high.word as usize);
     if bytes.len() < n {
         return Length {
             length: 0,
-            reader: super::wrong(high),
+            reader: recording::wrong(high),
         };
     }
-    let whole = super::read_bytes(block, high, &mut bytes[..n]);
+    let whole = recording::read_bytes(block, high, &mut bytes[..n]);
     Length {
         length: n,
         reader: whole,
@@ -241,13 +241,13 @@ pub struct Text {
 fn read_text(block: &mut [u8; 65536], r: Reader) -> Text
     ensures { λ s. ⌜ (s .length ≤ length (s .bytes)) × Keeps r (s .reader) ⌝ }
 {
-    let number = super::next(block, r);
-    let count = super::next(block, number);
-    let places = super::skip(block, count, count.word as usize);
+    let number = recording::next(block, r);
+    let count = recording::next(block, number);
+    let places = recording::skip(block, count, count.word as usize);
     let length = read_length(block, places, 6144);
     let n = length.length;
     let mut bytes = text_room();
-    let whole = super::read_bytes(block, length.reader, &mut bytes[..n]);
+    let whole = recording::read_bytes(block, length.reader, &mut bytes[..n]);
     Text {
         length: n,
         bytes: bytes,

@@ -1,7 +1,7 @@
 use Rattle.recording.proofs.KeepLaws.{keeps-then}
 use borrow.Author.Needs.{needs}
-use Rattle.recording.proofs.records.read_complete.Statement.{statement}
-use Rattle.recording.proofs.records.read_complete.Tie as tie
+use Rattle.records.proofs.read_complete.Statement.{statement}
+use Rattle.records.proofs.read_complete.Tie as tie
 
 read-mask-requires : tie.Need-read-mask-requires
 read-mask-requires c κs = search needs

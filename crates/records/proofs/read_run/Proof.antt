@@ -1,7 +1,7 @@
 use Rattle.recording.proofs.KeepLaws.{keeps-then}
 use borrow.Author.Needs.{needs}
-use Rattle.recording.proofs.records.read_run.Statement.{statement}
-use Rattle.recording.proofs.records.read_run.Tie as tie
+use Rattle.records.proofs.read_run.Statement.{statement}
+use Rattle.records.proofs.read_run.Tie as tie
 
 read-input-requires : tie.Need-read-input-requires
 read-input-requires c κs = search needs

@@ -1,7 +1,7 @@
 use Rattle.recording.proofs.KeepLaws.{keeps-then}
 use borrow.Author.Needs.{needs}
-use Rattle.recording.proofs.records.read_prepare.Statement.{statement}
-use Rattle.recording.proofs.records.read_prepare.Tie as tie
+use Rattle.records.proofs.read_prepare.Statement.{statement}
+use Rattle.records.proofs.read_prepare.Tie as tie
 
 read-length-requires : tie.Need-read-length-requires
 read-length-requires c κs = search needs

@@ -1,9 +1,9 @@
 -- The lengths of what was read fit the rooms that they are of.
 use Prim.Native.Nat.{ℕ, _≤_}
 use lib.ListN.{length}
-use Rattle.recording.specs.declared.records.Wide.{Wide}
-use Rattle.recording.specs.declared.records.Prepare.{Prepare}
-use Rattle.recording.specs.declared.records.Complete.{Complete}
+use Rattle.records.specs.declared.Wide.{Wide}
+use Rattle.records.specs.declared.Prepare.{Prepare}
+use Rattle.records.specs.declared.Complete.{Complete}
 
 abbrev pub WideFits : Wide → Type 0
 WideFits w = w .length ≤ length (w .words)

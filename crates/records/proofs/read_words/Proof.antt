@@ -1,10 +1,10 @@
 use mathlib.Core.Path.{sym}
 use native.Mathlib.Omega.{arith}
 use lib.Seq.{length-take-le}
 use Rattle.recording.proofs.RoomLaws.{front-fits}
 use borrow.Author.Needs.{needs}
-use Rattle.recording.proofs.records.read_words.Statement.{statement}
-use Rattle.recording.proofs.records.read_words.Tie as tie
+use Rattle.records.proofs.read_words.Statement.{statement}
+use Rattle.records.proofs.read_words.Tie as tie
 
 wide-room-requires : tie.Need-wide-room-requires
 wide-room-requires c κs = search needs
