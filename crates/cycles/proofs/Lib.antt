@@ -1,7 +1,5 @@
 pub mod DegreeLaws
-pub mod VisitLaws
-pub mod TurnLaws
-pub mod VertexLaws
 pub mod LoopLaws
 pub mod SetupLaws
+pub mod AnswerLaws
 pub mod OutcomeLaws

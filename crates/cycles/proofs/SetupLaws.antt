@@ -1,24 +1,20 @@
 -- The tables are built and the atoms' counts cleared: the shape stands, and no edge is counted.
-use mathlib.Core.Path.{_≡_, sym, ap, _∙_, subst}
+use mathlib.Core.Path.{_≡_, ap, _∙_}
 use mathlib.Core.List.{List, _++_}
 use Prim.Native.Nat.{ℕ, _+_, _-_, _≤_, _<_}
 use native.Mathlib.Omega.{arith}
 use lib.ListN.{length, getD, take, drop, replicate, length-replicate, length-take, length-drop, getD-replicate}
 use Rattle.theory.specs.Words.{theoryOf}
 use Rattle.theory.specs.Accepted.{Edition, Accepted}
-use Rattle.theory.specs.Rows.{Edge, atomNodes, parents, byBody}
 use Rattle.theory.proofs.RowLaws.{preds-few}
 use Rattle.graph.proofs.DecodeLaws.{the-atoms, the-nodes}
 use Rattle.area.specs.declared.Bases.{Bases}
 use Rattle.area.specs.Layout.{Based}
 use Rattle.area.proofs.PartLaws.{part-length, part-before, part-at, frame-less}
 use Rattle.adjacency.specs.declared.Table.the-variants.{AtomNodes, Parents, ByBody}
-use Rattle.adjacency.specs.Tables.{Tabled, Built}
+use Rattle.adjacency.specs.Tables.{Built}
 use Rattle.adjacency.proofs.TableLaws.{kept, wider}
 use Rattle.cycles.specs.Held.{Shape, Started}
-
-as-rows : {n : ℕ} {w : List ℕ} {base rows rows′ : ℕ} {edges : List Edge} → rows ≡ rows′ → Tabled n w base rows edges → Tabled n w base rows′ edges
-as-rows {n} {w} {base} {rows} {rows′} {edges} e t = subst (λ (r : ℕ). Tabled n w base r edges) e t
 
 module _ {ed : Edition} {ws : List ℕ} {lim words : ℕ} {b : Bases} {w₀ w₁ w₂ w₃ : List ℕ} (p : List ℕ)
     (acc : Accepted ed ws) (fits : 1 + ed .entries + ed .entries < lim) (base : Based ws (length w₀) b) (size : length w₀ ≡ words) (most : words ≤ lim)
@@ -48,26 +44,25 @@ module _ {ed : Edition} {ws : List ℕ} {lim words : ℕ} {b : Bases} {w₀ w₁
   frame = frame-less (b .dependencies) w₃ w₄ (part-before (b .dependencies) (b .dependencies + b .atoms) w₃ p start end part) (b .states) (let l = base .laid in omega arith)
 
   shape : Shape lim (theoryOf ws) b w₄
-  unfolding atomNodes parents byBody
   shape =
       let l = base .laid in let e = base .ends in let x = base .atoms in let y = base .nodes in
       let x′ = the-atoms ws in let y′ = the-nodes ws in
       let z₃ = size₃ in let z₄ = size₄ in let z₁ = s₁ .size in let z₂ = s₂ .size in
-      let ea : theoryOf ws .atoms ≡ b .atoms = omega arith in
-      let en : theoryOf ws .nodes ≡ b .nodes = omega arith in
       let t₁ = kept (wider (kept (s₁ .table) w₂ (s₂ .before) (s₂ .size)) (b .«by_body») (omega arith) (omega arith)) w₃ (s₃ .before) (s₃ .size) in
       let t₂ = kept (wider (s₂ .table) (b .«by_body») (omega arith) (omega arith)) w₃ (s₃ .before) (s₃ .size) in
       record {
         ok = acc .well-formed;
         laid = base .laid;
-        atoms = sym ea;
-        nodes = sym en;
+        atoms = omega arith;
+        nodes = omega arith;
         long = omega arith;
         size = omega arith;
         few = λ v h. let f = preds-few (theoryOf ws) v (omega arith) in let u = acc .leaf-total in let k = acc .head-total in omega arith;
-        atom-nodes = kept (wider (as-rows ea t₁) (b .states) (omega arith) (omega arith)) w₄ frame size₄;
-        parents-of = kept (wider (as-rows en t₂) (b .states) (omega arith) (omega arith)) w₄ frame size₄;
-        by-body = kept (as-rows en (s₃ .table)) w₄ frame size₄;
+        tables = record {
+          atom-nodes = kept (wider t₁ (b .states) (omega arith) (omega arith)) w₄ frame size₄;
+          parents = kept (wider t₂ (b .states) (omega arith) (omega arith)) w₄ frame size₄;
+          by-body = kept (s₃ .table) w₄ frame size₄;
+        };
       }
 
   pub set-up-started : Started lim (theoryOf ws) b (take (b .dependencies) w₃ ++ (p ++ drop (b .dependencies + b .atoms - b .dependencies) (drop (b .dependencies) w₃))) 0

@@ -33,7 +33,7 @@ between-same from zero k l h = refl
 between-same from (suc n) k l h = ap₂ (λ (a : ℕ) (b : List ℕ). a ∷ b) (h (from + n) (omega arith)) (between-same from n k l (λ i j. h i (omega arith)))
 
 -- a store at or past n leaves them
-pub upto-past : (n i x : ℕ) (l : List ℕ) → n ≤ i → upto n (set l i x) ≡ upto n l
+upto-past : (n i x : ℕ) (l : List ℕ) → n ≤ i → upto n (set l i x) ≡ upto n l
 upto-past n i x l h = upto-same n (set l i x) l (λ j k. getD-set-other l i j x 0 (λ e. omega arith))
 
 -- one more

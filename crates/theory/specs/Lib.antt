@@ -11,7 +11,6 @@ pub mod Accepted
 pub mod Cases
 pub mod Counts
 pub mod Rows
-pub mod Kahn
 pub mod Drive
 pub mod Closure
 pub mod Worklist

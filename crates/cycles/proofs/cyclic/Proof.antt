@@ -1,7 +1,8 @@
+use mathlib.Core.Path.{_≡_}
 use native.Mathlib.Omega.{arith}
 use denote.Ref.{now}
-use Rattle.theory.specs.Words.{theoryOf}
-use Rattle.cycles.proofs.LoopLaws.{counted-held, answer}
+use lib.ListN.{length}
+use Rattle.cycles.proofs.AnswerLaws.{tables-looked, running, answer}
 use borrow.Author.Needs.{needs}
 use Rattle.cycles.proofs.cyclic.Statement.{statement}
 use Rattle.cycles.proofs.cyclic.Tie as tie
@@ -22,19 +23,20 @@ count-all-requires c κs = search needs
 look-all-requires : tie.Need-look-all-requires
 look-all-requires c κs =
     let c-count-all = c .before .before .before .count-all in
-    let p1 = c .before .before .before .before .before .before .before .before .before .before .before .before in
-    let c-args = p1 .args in
-    (theoryOf (now (c-args .graph)), counted-held (c-count-all .ensures))
+    let s = c-count-all .ensures .shape in (s .laid, s .long, s .size)
 
-follow-all-requires : tie.Need-follow-all-requires
-follow-all-requires c κs =
+settle-all-requires : tie.Need-settle-all-requires
+settle-all-requires c κs =
     let c-look-all = c .before .before .before .look-all in
     let p1 = c .before .before .before .before .before .before .before in
     let c-count-all = p1 .count-all in
-    let p2 = p1 .before .before .before .before .before .before .before .before .before in
-    let c-pre = p2 .pre in
-    let c-args = p2 .args in
-    (c-pre .0, c-look-all .ensures (theoryOf (now (c-args .graph))) (counted-held (c-count-all .ensures)))
+    let p2 = p1 .before .before .before .before .before .before in
+    let c-bases-of = p2 .bases-of in
+    let p3 = p2 .before .before .before in
+    let c-pre = p3 .pre in
+    let ws = now (p3 .args .graph) in
+    let e : length (c-look-all .last .0) ≡ 32768 = omega (arith, c-look-all .ensures .size) in
+    ((c-pre .0, rw e (c-bases-of .ensures), tables-looked ws (c-count-all .ensures) (c-look-all .ensures)), (_, running ws (c-count-all .ensures) (c-look-all .ensures)))
 
 add-result : tie.Need-add-result
 add-result c =
@@ -47,8 +49,12 @@ same-length c = search needs
 
 returns : tie.Need-returns
 returns c =
-    let c-follow-all = c .before .before .before .follow-all in
-    answer (c-follow-all .ensures)
+    let c-settle-all = c .before .before .before .settle-all in
+    let p1 = c .before .before .before .before .before .before .before in
+    let c-look-all = p1 .look-all in
+    let c-count-all = p1 .before .before .before .before .count-all in
+    let ws = now (c .before .before .before .before .before .before .before .before .before .before .before .before .before .before .before .before .before .before .before .before .args .graph) in
+    answer ws (c-count-all .ensures) (c-look-all .ensures) (c-settle-all .ensures)
 
 pub cyclic-spec : {M : Type 1} → statement M
 cyclic-spec =
@@ -58,7 +64,7 @@ cyclic-spec =
     set-up-requires
     count-all-requires
     look-all-requires
-    follow-all-requires
+    settle-all-requires
     add-result
     same-length
     returns)
