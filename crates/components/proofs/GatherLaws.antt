@@ -5,8 +5,8 @@ use mathlib.Core.List.{List, [], _∷_, List·Memᴰ·head, List·Memᴰ·tail}
 use Prim.Native.Nat.{ℕ, _+_, _-_, _≤_, _<_}
 use native.Mathlib.Omega.{arith}
 use native.Mathlib.Numerals.{add-one}
-use lib.ListN.{length, getD, set, drop, length-set}
-use lib.Seq.{getD-set-same, getD-set-other, getD-drop, take-set-le}
+use lib.ListN.{length, getD, drop, length-set}
+use lib.Seq.{getD-drop}
 use Rattle.theory.specs.Sets.{Is, Mem, everyone}
 use Rattle.theory.specs.Words.{theoryOf}
 use Rattle.theory.specs.Accepted.{Accepted, Edition, edition1}
@@ -24,8 +24,8 @@ use Rattle.area.specs.declared.Bases.{Bases}
 use Rattle.area.specs.Layout.{Based}
 use Rattle.events.specs.Held.{queued}
 use Rattle.area.specs.Marks.{markOf, markIn}
-use Rattle.area.proofs.MarkLaws.{mark-place, mark-apart}
 use Rattle.components.specs.Classes.{Classifying, Kept, Gathered, Searched, ordered}
+use Rattle.components.proofs.MeetLaws.{met, met-size, met-frame, met-past, met-before, met-last, met-mark, met-others}
 
 -- the queue and the order as lists, in words that agree on them
 pub queued-same : (b : Bases) (n : ℕ) (w w′ : List ℕ) → ((i : ℕ) → i < n → getD w′ (b .queue + i) 0 ≡ getD w (b .queue + i) 0) → queued b w′ n ≡ queued b w n
@@ -69,9 +69,6 @@ module _ {ws : List ℕ} {ed : Edition} (acc : Accepted ed ws) {b : Bases} {word
       )
 
   module _ {w : List ℕ} (n found : ℕ) (s : Classifying ws b w (n + 1) found) where
-    root : ℕ
-    root = getD w (b .«body_nodes» + n) 0
-
     cons : ordered b w (n + 1) ≡ getD w (b .«body_nodes» + n) 0 ∷ ordered b w n
     unfolding upto
     cons = rw (add-one n, getD-drop (b .«body_nodes») w n 0)
@@ -108,77 +105,37 @@ module _ {ws : List ℕ} {ed : Edition} (acc : Accepted ed ws) {b : Bases} {word
           omega (arith, upto-length found (drop (b .queue) w))
 
       module _ (x : ℕ) (ex : x ≡ getD w (b .«body_nodes» + n) 0) where
-        w₁ : List ℕ
-        w₁ = set (set w (markOf b x) 3) (b .queue + found) x
-
         low : x < b .atoms + b .nodes
         low = rw ex (root-in .1)
 
-        place : (b .states ≤ markOf b x) × (markOf b x < b .end) × ((markOf b x < b .dependencies) ⊎ ((b .«founded_atoms» ≤ markOf b x) × (markOf b x < b .«cyclic_atoms»)))
-        place = mark-place (based .laid) x low
-
-        -- what neither store touches
-        other : (i : ℕ) → i ≢ markOf b x → i ≢ b .queue + found → getD (set (set w (markOf b x) 3) (b .queue + found) x) i 0 ≡ getD w i 0
-        other i p q = getD-set-other (set w (markOf b x) 3) (b .queue + found) i x 0 q ∙ getD-set-other w (markOf b x) i 3 0 p
-
-        off : (i : ℕ) → i ≡ markOf b x → (b .dependencies ≤ i) → (i < b .«founded_atoms») ⊎ (b .«cyclic_atoms» ≤ i) → ⊥
-        off i e l k = go (place .2) k
-          where
-            go : (markOf b x < b .dependencies) ⊎ ((b .«founded_atoms» ≤ markOf b x) × (markOf b x < b .«cyclic_atoms»)) → (i < b .«founded_atoms») ⊎ (b .«cyclic_atoms» ≤ i) → ⊥
-            go (inl p) q = omega arith
-            go (inr p) (inl q) = omega arith
-            go (inr p) (inr q) = omega arith
-
-        queue-other : (i : ℕ) → i < found → getD (set (set w (markOf b x) 3) (b .queue + found) x) (b .queue + i) 0 ≡ getD w (b .queue + i) 0
-        queue-other i l = let d = based .laid in let r = root-room in other (b .queue + i) (λ e. off (b .queue + i) e (omega arith) (inl (omega arith))) (λ e. omega arith)
-
-        here : getD (set (set w (markOf b x) 3) (b .queue + found) x) (b .queue + found) 0 ≡ x
-        here = let d = based .laid in let r = root-room in getD-set-same (set w (markOf b x) 3) (b .queue + found) x 0 (rw length-set (omega arith))
-
-        mark-other : (u : ℕ) → u < b .atoms + b .nodes → getD (set (set w (markOf b x) 3) (b .queue + found) x) (markOf b u) 0 ≡ getD (set w (markOf b x) 3) (markOf b u) 0
-        mark-other u l =
-            let d = based .laid in let r = root-room in
-            let p = mark-place (based .laid) u l .2 in
-            getD-set-other (set w (markOf b x) 3) (b .queue + found) (markOf b u) x 0 (λ e. go e p)
-          where
-            go : markOf b u ≡ b .queue + found → (markOf b u < b .dependencies) ⊎ ((b .«founded_atoms» ≤ markOf b u) × (markOf b u < b .«cyclic_atoms»)) → ⊥
-            go e (inl q) = let d = based .laid in let r = root-room in omega arith
-            go e (inr q) = let d = based .laid in let r = root-room in omega arith
-
-        marked : getD (set (set w (markOf b x) 3) (b .queue + found) x) (markOf b x) 0 ≡ 3
-        marked = let p = place .1 in mark-other x low ∙ getD-set-same w (markOf b x) 3 0 (omega arith)
-
-        others : (u : ℕ) → u < b .atoms + b .nodes → u ≢ x → getD (set (set w (markOf b x) 3) (b .queue + found) x) (markOf b u) 0 ≡ getD w (markOf b u) 0
-        others u l k = mark-other u l ∙ getD-set-other w (markOf b x) (markOf b u) 3 0 (mark-apart (based .laid) x low u l k)
-
-        one : between found (found + 1 - found) (drop (b .queue) (set (set w (markOf b x) 3) (b .queue + found) x)) ≡ x ∷ []
+        one : between found (found + 1 - found) (drop (b .queue) (met b w found x)) ≡ x ∷ []
         unfolding between
         one =
             let e : found + 1 - found ≡ 1 = omega arith in
             let z : found + 0 ≡ found = omega arith in
-            ap (λ (k : ℕ). between found k (drop (b .queue) (set (set w (markOf b x) 3) (b .queue + found) x))) e
-            ∙ ap (λ (y : ℕ). y ∷ []) (ap (λ (k : ℕ). getD (drop (b .queue) (set (set w (markOf b x) 3) (b .queue + found) x)) k 0) z ∙ getD-drop (b .queue) (set (set w (markOf b x) 3) (b .queue + found) x) found 0 ∙ here)
+            ap (λ (k : ℕ). between found k (drop (b .queue) (met b w found x))) e
+            ∙ ap (λ (y : ℕ). y ∷ []) (ap (λ (k : ℕ). getD (drop (b .queue) (met b w found x)) k 0) z ∙ getD-drop (b .queue) (met b w found x) found 0 ∙ met-last (based .laid) w found x root-room low long)
 
-        none : between found (found - found) (drop (b .queue) (set (set w (markOf b x) 3) (b .queue + found) x)) ≡ []
+        none : between found (found - found) (drop (b .queue) (met b w found x)) ≡ []
         unfolding between
-        none = let e : found - found ≡ 0 = omega arith in ap (λ (k : ℕ). between found k (drop (b .queue) (set (set w (markOf b x) 3) (b .queue + found) x))) e
+        none = let e : found - found ≡ 0 = omega arith in ap (λ (k : ℕ). between found k (drop (b .queue) (met b w found x))) e
 
-        kept₁ : Kept b w (set (set w (markOf b x) 3) (b .queue + found) x)
+        kept₁ : Kept b w (met b w found x)
         kept₁ =
-            let d = based .laid in let r = root-room in let p = place .0 in
+            let d = based .laid in
             record {
-              size = length-set (set w (markOf b x) 3) (b .queue + found) x ∙ length-set w (markOf b x) 3;
-              tables = take-set-le (b .states) (set w (markOf b x) 3) (b .queue + found) x (omega arith) ∙ take-set-le (b .states) w (markOf b x) 3 p;
-              order = λ i l h. other i (λ e. off i e (omega arith) (inl h)) (λ e. omega arith);
-              flags = λ i l. other i (λ e. off i e (omega arith) (inr l)) (λ e. omega arith);
+              size = met-size d w found x root-room low;
+              tables = met-frame d w found x root-room low;
+              order = λ i l h. met-past d w found x root-room low i l (inl h);
+              flags = λ i l. met-past d w found x root-room low i (omega arith) (inr l);
             }
 
-        pub gather-start : Searched ws b w (set (set w (markOf b x) 3) (b .queue + found) x) n found found (found + 1)
+        pub gather-start : Searched ws b w (met b w found x) n found found (found + 1)
         gather-start = record {
           kept = kept₁;
           after = omega arith;
           ahead = omega arith;
-          front = queue-other;
+          front = met-before (based .laid) w found x root-room low;
           held = record {
             laid = based .laid;
             long = rw (length-set, length-set) long;
@@ -186,12 +143,9 @@ module _ {ws : List ℕ} {ed : Edition} (acc : Accepted ed ws) {b : Bases} {word
             kept = λ i l k. refl;
             fore = omega arith;
             front = λ i l. refl;
-            settling = λ e. let z : _≡_ {A = ℕ} 0 1 = cc in absurd (omega arith);
-            collecting = λ e. record {
-              within = within;
-              after = omega arith;
-              collecting = rw (one, none, queued-same b found w (set (set w (markOf b x) 3) (b .queue + found) x) queue-other, ← ex)
-                  (collect-begin (b .atoms + b .nodes) _ _ within (rw (← ex) at swept) low (rw (← ex) at two) marked others);
-            };
+            within = within;
+            after = omega arith;
+            collecting = rw (one, none, queued-same b found w (met b w found x) (met-before (based .laid) w found x root-room low), ← ex)
+                (collect-begin (b .atoms + b .nodes) _ _ within (rw (← ex) at swept) low (rw (← ex) at two) (met-mark (based .laid) w found x root-room low long) (met-others (based .laid) w found x root-room low long));
           };
         }

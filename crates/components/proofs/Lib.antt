@@ -1,3 +1,5 @@
+pub mod MeetLaws
+pub mod CollectLaws
 pub mod GatherLaws
 pub mod TurnLaws
 pub mod FlagLaws

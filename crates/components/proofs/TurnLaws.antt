@@ -22,16 +22,16 @@ use Rattle.theory.proofs.DriveLaws.{follows-all, drives-all}
 use Rattle.graph.proofs.DecodeLaws.{the-atoms}
 use Rattle.area.specs.declared.Bases.{Bases}
 use Rattle.area.specs.Layout.{Laid, Based}
-use Rattle.events.specs.declared.Event.the-variants.{Collect}
-use Rattle.events.specs.Held.{Gathering, Held, queued}
+use Rattle.events.specs.Held.{queued}
 use Rattle.area.specs.Marks.{markIn}
 use Rattle.events.proofs.VertexLaws.{tables-same}
+use Rattle.components.specs.Gathering.{Gathering}
 use Rattle.components.specs.Classes.{Classifying, Kept, Gathered, Searched, ordered, ctxOf}
 use Rattle.components.proofs.GatherLaws.{within, row-all, row-edges, ordered-same, left}
 
 module _ {ws : List ℕ} {ed : Edition} (acc : Accepted ed ws) {b : Bases} {words : ℕ} (based : Based ws words b) {w₀ w : List ℕ} (n found head tail : ℕ) (r : Searched ws b w₀ w n found head tail) where
-  g : Gathering b (ctxOf ws b w₀ n found (between found (head - found) (drop (b .queue) w)) w tail) w tail []
-  g = r .held .collecting refl
+  g : Gathering 65536 b (ctxOf ws b w₀ n found (between found (head - found) (drop (b .queue) w)) w tail) w tail []
+  g = r .held
 
   c : Collecting (b .atoms + b .nodes) (conePreds (theoryOf ws)) (inGraph (theoryOf ws)) (getD w₀ (b .«body_nodes» + n) 0) (ordered b w₀ n) (queued b w found) (between found (tail - found) (drop (b .queue) w)) (between found (head - found) (drop (b .queue) w)) [] (markIn b w)
   c = g .collecting
@@ -52,7 +52,7 @@ module _ {ws : List ℕ} {ed : Edition} (acc : Accepted ed ws) {b : Bases} {word
     pub head-low : v < b .atoms + b .nodes
     head-low = c .low v (Memᴰ·append-left (queued b w found) member)
 
-    begun : Held 65536 b Collect (ctxOf ws b w₀ n found (v ∷ between found (head - found) (drop (b .queue) w)) w tail) w tail (succs (theoryOf ws) v)
+    begun : Gathering 65536 b (ctxOf ws b w₀ n found (v ∷ between found (head - found) (drop (b .queue) w)) w tail) w tail (succs (theoryOf ws) v)
     begun = record {
       laid = r .held .laid;
       long = r .held .long;
@@ -60,20 +60,17 @@ module _ {ws : List ℕ} {ed : Edition} (acc : Accepted ed ws) {b : Bases} {word
       kept = λ i l k. refl;
       fore = omega arith;
       front = λ i l. refl;
-      settling = λ e. let z : _≡_ {A = ℕ} 0 1 = cc in absurd (omega arith);
-      collecting = λ e. record {
-        within = g .within;
-        after = g .after;
-        collecting = collect-row (b .atoms + b .nodes) (conePreds (theoryOf ws)) (inGraph (theoryOf ws)) (g .within) c v member (succs (theoryOf ws) v) (row-all acc based v) (row-edges acc based v);
-      };
+      within = g .within;
+      after = g .after;
+      collecting = collect-row (b .atoms + b .nodes) (conePreds (theoryOf ws)) (inGraph (theoryOf ws)) (g .within) c v member (succs (theoryOf ws) v) (row-all acc based v) (row-edges acc based v);
     }
 
-    pub turn-follows : Follows (Held 65536 b Collect) w tail (succs (theoryOf ws) v)
-    turn-follows = follows-all (Held 65536 b Collect) begun
+    pub turn-follows : Follows (Gathering 65536 b) w tail (succs (theoryOf ws) v)
+    turn-follows = follows-all (Gathering 65536 b) begun
 
-    module _ {w′ : List ℕ} {t′ : ℕ} (d : Drives (Held 65536 b Collect) (b .states) w tail (succs (theoryOf ws) v) w′ t′ []) where
-      k : Held 65536 b Collect (ctxOf ws b w₀ n found (v ∷ between found (head - found) (drop (b .queue) w)) w tail) w′ t′ []
-      k = drives-all (Held 65536 b Collect) begun d
+    module _ {w′ : List ℕ} {t′ : ℕ} (d : Drives (Gathering 65536 b) (b .states) w tail (succs (theoryOf ws) v) w′ t′ []) where
+      k : Gathering 65536 b (ctxOf ws b w₀ n found (v ∷ between found (head - found) (drop (b .queue) w)) w tail) w′ t′ []
+      k = drives-all (Gathering 65536 b) begun d
 
       same : (i : ℕ) → i < tail → getD (drop (b .queue) w′) i 0 ≡ getD (drop (b .queue) w) i 0
       same i l = getD-drop (b .queue) w′ i 0 ∙ k .front i l ∙ sym (getD-drop (b .queue) w i 0)
@@ -107,8 +104,9 @@ module _ {ws : List ℕ} {ed : Edition} (acc : Accepted ed ws) {b : Bases} {word
               kept = λ i p q. refl;
               fore = omega arith;
               front = λ i p. refl;
-              settling = λ e. let z : _≡_ {A = ℕ} 0 1 = cc in absurd (omega arith);
-              collecting = λ e. let q = k .collecting refl in record { within = q .within; after = q .after; collecting = rw one-more (q .collecting) };
+              within = k .within;
+              after = k .after;
+              collecting = rw one-more (k .collecting);
             };
           }
 

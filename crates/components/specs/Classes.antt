@@ -12,12 +12,11 @@ use Rattle.theory.specs.Edges.{inGraph, conePreds}
 use Rattle.theory.specs.Founded.{cyclic}
 use Rattle.theory.specs.Unfounded.{OnClosedWalk}
 use Rattle.theory.specs.Search.{Swept}
-use Rattle.theory.specs.Closure.{dead}
 use Rattle.theory.specs.Prefix.{upto, between}
 use Rattle.area.specs.declared.Bases.{Bases}
-use Rattle.events.specs.declared.Event.the-variants.{Collect}
-use Rattle.events.specs.Held.{Tables, Ctx, Held, queued}
+use Rattle.events.specs.Held.{Tables, queued}
 use Rattle.area.specs.Marks.{markIn}
+use Rattle.components.specs.Gathering.{Ctx, Gathering}
 
 -- the first n of the finishing order, the last one first
 abbrev pub ordered : Bases → List ℕ → ℕ → List ℕ
@@ -56,9 +55,7 @@ pub record Gathered (ws : List ℕ) (b : Bases) (w₀ w : List ℕ) (n found tai
 -- while it is made: the rows of the members before `head` have been begun and followed
 abbrev pub ctxOf : (ws : List ℕ) (b : Bases) (w₀ : List ℕ) (n found : ℕ) (begun w : List ℕ) (t : ℕ) → Ctx
 ctxOf ws b w₀ n found begun w t = record {
-  mode = λ v. dead;
   pred = conePreds (theoryOf ws);
-  done = [];
   graph = inGraph (theoryOf ws);
   root = getD w₀ (b .«body_nodes» + n) 0;
   earlier = ordered b w₀ n;
@@ -73,7 +70,7 @@ pub record Searched (ws : List ℕ) (b : Bases) (w₀ w : List ℕ) (n found hea
   pub after : found ≤ head
   pub ahead : head ≤ tail
   pub front : (i : ℕ) → i < found → getD w (b .queue + i) 0 ≡ getD w₀ (b .queue + i) 0
-  pub held : Held 65536 b Collect (ctxOf ws b w₀ n found (between found (head - found) (drop (b .queue) w)) w tail) w tail []
+  pub held : Gathering 65536 b (ctxOf ws b w₀ n found (between found (head - found) (drop (b .queue) w)) w tail) w tail []
 
 -- a component on the queue, whose flags are still to be set
 pub record Component (ws : List ℕ) (b : Bases) (w : List ℕ) (n from to : ℕ) : Type 0 where

@@ -1,5 +1,7 @@
 // Components and cyclic atoms, by the second walk of Sharir (1981): along the edges, latest finished first, each search collecting one component.
-// An atom alone in its component is not cyclic.
+// An atom alone in its component is not cyclic. The rows of the members are gone through in collecting.rt.
+mod collecting;
+
 ghost use mathlib.Core.Path.{_≡_};
 ghost use Prim.Native.Nat.{_+_, _<_, _≤_};
 ghost use lib.ListN.{length};
@@ -10,7 +12,6 @@ ghost use Rattle.theory.specs.Words.{theoryOf};
 ghost use Rattle.events.specs.Held.{Tables};
 ghost use Rattle.finishing.specs.Finished.{Ready, Marked};
 use area::Bases;
-use events::Event;
 
 // The members that are on the queue from `found` on, the root alone at first, and those that their rows lead to.
 fn follow(graph: &[u16], work: &mut [u16], b: Bases, n: usize, found: usize) -> usize
@@ -21,7 +22,7 @@ fn follow(graph: &[u16], work: &mut [u16], b: Bases, n: usize, found: usize) -> 
     let mut tail = found + 1;
     while head < tail {
         let v = graph::at(work, b.queue + head);
-        tail = events::visit_vertex(graph, work, b, Event::Collect, v, tail);
+        tail = collecting::collect_vertex(graph, work, b, v, tail);
         head += 1;
     }
     tail

@@ -28,7 +28,6 @@ use Rattle.area.specs.declared.Bases.{Bases}
 use Rattle.area.proofs.PartLaws.{frame-at, frame-less}
 use Rattle.events.specs.Held.{Tables, countAt, queued}
 use Rattle.events.specs.Run.{Running, Ran}
-use Rattle.events.proofs.SettleLaws.{settle-only}
 use Rattle.events.proofs.VertexLaws.{tables-same}
 use Rattle.cycles.specs.Held.{Counting, Looked}
 use Rattle.cycles.proofs.DegreeLaws.{degree-all}
@@ -62,11 +61,9 @@ module _ (ws : List ℕ) {b : Bases} {w w′ : List ℕ} {t : ℕ} (c : Counting
           laid = l;
           long = omega arith;
           small = omega arith;
-          kept = λ i h q. refl;
           fore = omega arith;
           front = λ i h. refl;
-          settling = λ e. worklist-start (b .atoms + b .nodes) (λ v. every) (preds (theoryOf ws) everyone) started;
-          collecting = λ e. settle-only e;
+          settling = worklist-start (b .atoms + b .nodes) (λ v. every) (preds (theoryOf ws) everyone) started;
         };
       }
 
@@ -75,7 +72,7 @@ module _ (ws : List ℕ) {b : Bases} {w w′ : List ℕ} {t : ℕ} (c : Counting
   answer {w″} {n} r = go (decLt n (b .atoms + b .nodes))
     where
       list : Worklist (b .atoms + b .nodes) (λ v. every) (preds (theoryOf ws) everyone) (queued b w″ n) (queued b w″ n) [] (countAt b w″)
-      list = r .runs (λ v. every) running .held .settling refl
+      list = r .runs (λ v. every) running .held .settling
 
       -- a vertex of the bases is one of the theory
       bound : b .atoms + b .nodes ≡ theoryOf ws .atoms + theoryOf ws .nodes

@@ -1,5 +1,4 @@
 pub mod SettleLaws
-pub mod GatherLaws
 pub mod VertexLaws
 pub mod TurnLaws
 pub mod FlatLaws

@@ -23,10 +23,8 @@ use Rattle.theory.proofs.DriveLaws.{follows-all, drives-all}
 use Rattle.graph.proofs.DecodeLaws.{the-atoms, the-nodes}
 use Rattle.area.specs.declared.Bases.{Bases}
 use Rattle.area.specs.Layout.{Based}
-use Rattle.events.specs.declared.Event.the-variants.{Settle}
 use Rattle.events.specs.Held.{Held, countAt, queued}
 use Rattle.events.specs.Run.{runCtx, Running}
-use Rattle.events.proofs.SettleLaws.{settle-only}
 
 module _ {ws : List ℕ} {ed : Edition} (acc : Accepted ed ws) {b : Bases} {words : ℕ} (based : Based ws words b) where
   bound : theoryOf ws .atoms + theoryOf ws .nodes ≡ b .atoms + b .nodes
@@ -50,7 +48,7 @@ module _ {ws : List ℕ} {ed : Edition} (acc : Accepted ed ws) {b : Bases} {word
 
   module _ {mode : ℕ → Mode} {w : List ℕ} (head tail : ℕ) (r : Running ws b mode w head tail) where
     list : Worklist (b .atoms + b .nodes) mode (preds (theoryOf ws) everyone) (queued b w tail) (queued b w head) [] (countAt b w)
-    list = r .held .settling refl
+    list = r .held .settling
 
     pub tail-low : tail ≤ b .atoms + b .nodes
     tail-low = let p = pigeonhole (b .atoms + b .nodes) (queued b w tail) (list .distinct) (list .low) in omega (arith, upto-length tail (drop (b .queue) w))
@@ -65,24 +63,22 @@ module _ {ws : List ℕ} {ed : Edition} (acc : Accepted ed ws) {b : Bases} {word
       pub head-low : v < b .atoms + b .nodes
       head-low = list .low v found
 
-      begun : Held 65536 b Settle (runCtx ws mode (v ∷ queued b w head) w tail) w tail (succs (theoryOf ws) v)
+      begun : Held 65536 b (runCtx ws mode (v ∷ queued b w head) w tail) w tail (succs (theoryOf ws) v)
       begun = record {
         laid = r .held .laid;
         long = r .held .long;
         small = r .held .small;
-        kept = λ i l k. refl;
         fore = omega arith;
         front = λ i l. refl;
-        settling = λ e. worklist-begin (b .atoms + b .nodes) mode (preds (theoryOf ws) everyone) (succs (theoryOf ws) v) list found
+        settling = worklist-begin (b .atoms + b .nodes) mode (preds (theoryOf ws) everyone) (succs (theoryOf ws) v) list found
             (λ m. upto-once tail head (drop (b .queue) w) (list .distinct) h (rw at-head m))
             (λ x l. let q = bound in succs-preds (theoryOf ws) (acc .well-formed) v x (omega arith)) (leads v) (λ x l m. turned v x l m);
-        collecting = λ e. settle-only e;
       }
 
-      pub run-follows : Follows (Held 65536 b Settle) w tail (succs (theoryOf ws) v)
-      run-follows = follows-all (Held 65536 b Settle) begun
+      pub run-follows : Follows (Held 65536 b) w tail (succs (theoryOf ws) v)
+      run-follows = follows-all (Held 65536 b) begun
 
-      pub run-next : {w′ : List ℕ} {t′ : ℕ} → Drives (Held 65536 b Settle) (b .states) w tail (succs (theoryOf ws) v) w′ t′ [] → Running ws b mode w′ (head + 1) t′
+      pub run-next : {w′ : List ℕ} {t′ : ℕ} → Drives (Held 65536 b) (b .states) w tail (succs (theoryOf ws) v) w′ t′ [] → Running ws b mode w′ (head + 1) t′
       unfolding upto
       run-next {w′} {t′} d = record {
         ahead = let f = k .fore in omega arith;
@@ -90,16 +86,14 @@ module _ {ws : List ℕ} {ed : Edition} (acc : Accepted ed ws) {b : Bases} {word
           laid = k .laid;
           long = k .long;
           small = k .small;
-          kept = λ i l p. refl;
           fore = omega arith;
           front = λ i l. refl;
-          settling = λ e. rw more (k .settling refl);
-          collecting = λ e. settle-only e;
+          settling = rw more (k .settling);
         };
       }
         where
-          k : Held 65536 b Settle (runCtx ws mode (v ∷ queued b w head) w tail) w′ t′ []
-          k = drives-all (Held 65536 b Settle) begun d
+          k : Held 65536 b (runCtx ws mode (v ∷ queued b w head) w tail) w′ t′ []
+          k = drives-all (Held 65536 b) begun d
 
           same : (i : ℕ) → i < tail → getD (drop (b .queue) w′) i 0 ≡ getD (drop (b .queue) w) i 0
           same i l = getD-drop (b .queue) w′ i 0 ∙ k .front i l ∙ sym (getD-drop (b .queue) w i 0)

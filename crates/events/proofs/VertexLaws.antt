@@ -16,8 +16,7 @@ use Rattle.area.specs.declared.Bases.{Bases}
 use Rattle.area.specs.Layout.{Based}
 use Rattle.area.proofs.PartLaws.{frame-at, frame-slice}
 use Rattle.adjacency.specs.Tables.{startAt, rowAt, Tabled}
-use Rattle.events.specs.declared.Event.{Event}
-use Rattle.events.specs.Held.{Held, shifted, Spanned, Named, Tables}
+use Rattle.events.specs.Held.{shifted, Spanned, Named, Tables}
 
 mem-getD : (l : List ℕ) (i : ℕ) → i < length l → Mem (getD l i 0) l
 mem-getD [] i h = absurd (omega arith)
@@ -98,25 +97,25 @@ module _ {ws w : List ℕ} {b : Bases} {words : ℕ} (based : Based ws words b) 
       ∙ ap₂ (λ (a : ℕ) (x : List ℕ). map (λ n. a + n) x ++ flatMap (theoryOf ws .heads) (entries (v - b .atoms) (byBody (theoryOf ws)))) (sym e) (sym r)
       ∙ ap (λ (x : List ℕ). shifted b (rowAt w (b .parents) (b .nodes) (v - b .atoms)) ++ flatMap (theoryOf ws .heads) x) (sym (body-row (v - b .atoms) (omega arith)))
 
--- ---- a node's row is its parents and then its producers' heads
+-- ---- a node's row is its parents and then its producers' heads, whatever is kept meanwhile
 
-module _ {lim : ℕ} {ws w : List ℕ} {b : Bases} {words tail : ℕ} {e : Event} (based : Based ws words b) (t : Tables (theoryOf ws) b w) {v : ℕ} (l : b .atoms ≤ v) (k : v < b .atoms + b .nodes)
-    (f : Follows (Held lim b e) w tail (succs (theoryOf ws) v)) where
-  pub parents-next : Follows (Held lim b e) w tail (shifted b (rowAt w (b .parents) (b .nodes) (v - b .atoms)))
-  parents-next = follows-next (Held lim b e) (shifted b (rowAt w (b .parents) (b .nodes) (v - b .atoms))) (flatMap (theoryOf ws .heads) (rowAt w (b .«by_body») (b .nodes) (v - b .atoms))) (node-row based t v l k) (drives-none (Held lim b e) {n = b .states}) f
+module _ {Ctx : Type 0} {P : Ctx → List ℕ → ℕ → List ℕ → Type 0} {ws w : List ℕ} {b : Bases} {words tail : ℕ} (based : Based ws words b) (t : Tables (theoryOf ws) b w) {v : ℕ} (l : b .atoms ≤ v) (k : v < b .atoms + b .nodes)
+    (f : Follows P w tail (succs (theoryOf ws) v)) where
+  pub parents-next : Follows P w tail (shifted b (rowAt w (b .parents) (b .nodes) (v - b .atoms)))
+  parents-next = follows-next P (shifted b (rowAt w (b .parents) (b .nodes) (v - b .atoms))) (flatMap (theoryOf ws .heads) (rowAt w (b .«by_body») (b .nodes) (v - b .atoms))) (node-row based t v l k) (drives-none P {n = b .states}) f
 
-  module _ {w₁ : List ℕ} {t₁ : ℕ} (d : Drives (Held lim b e) (b .states) w tail (shifted b (rowAt w (b .parents) (b .nodes) (v - b .atoms))) w₁ t₁ []) where
+  module _ {w₁ : List ℕ} {t₁ : ℕ} (d : Drives P (b .states) w tail (shifted b (rowAt w (b .parents) (b .nodes) (v - b .atoms))) w₁ t₁ []) where
     pub later : Tables (theoryOf ws) b w₁
     later = tables-same (d .frame) (d .size) t
 
-    middle : Drives (Held lim b e) (b .states) w tail (succs (theoryOf ws) v) w₁ t₁ (flatMap (theoryOf ws .heads) (rowAt w₁ (b .«by_body») (b .nodes) (v - b .atoms)))
+    middle : Drives P (b .states) w tail (succs (theoryOf ws) v) w₁ t₁ (flatMap (theoryOf ws .heads) (rowAt w₁ (b .«by_body») (b .nodes) (v - b .atoms)))
     middle =
         let r = body-row based t (v - b .atoms) (omega arith) ∙ sym (body-row based later (v - b .atoms) (omega arith)) in
-        rw r at (drives-step (Held lim b e) (shifted b (rowAt w (b .parents) (b .nodes) (v - b .atoms))) (flatMap (theoryOf ws .heads) (rowAt w (b .«by_body») (b .nodes) (v - b .atoms))) (node-row based t v l k) (drives-none (Held lim b e)) d)
+        rw r at (drives-step P (shifted b (rowAt w (b .parents) (b .nodes) (v - b .atoms))) (flatMap (theoryOf ws .heads) (rowAt w (b .«by_body») (b .nodes) (v - b .atoms))) (node-row based t v l k) (drives-none P) d)
 
-    pub body-next : Follows (Held lim b e) w₁ t₁ (flatMap (theoryOf ws .heads) (rowAt w₁ (b .«by_body») (b .nodes) (v - b .atoms)))
-    body-next = follows-next (Held lim b e) _ [] (sym (append-nil _)) middle f
+    pub body-next : Follows P w₁ t₁ (flatMap (theoryOf ws .heads) (rowAt w₁ (b .«by_body») (b .nodes) (v - b .atoms)))
+    body-next = follows-next P _ [] (sym (append-nil _)) middle f
 
-    pub node-done : {w₂ : List ℕ} {t₂ : ℕ} → Drives (Held lim b e) (b .states) w₁ t₁ (flatMap (theoryOf ws .heads) (rowAt w₁ (b .«by_body») (b .nodes) (v - b .atoms))) w₂ t₂ []
-        → Drives (Held lim b e) (b .states) w tail (succs (theoryOf ws) v) w₂ t₂ []
-    node-done s = drives-step (Held lim b e) _ [] (sym (append-nil _)) middle s
+    pub node-done : {w₂ : List ℕ} {t₂ : ℕ} → Drives P (b .states) w₁ t₁ (flatMap (theoryOf ws .heads) (rowAt w₁ (b .«by_body») (b .nodes) (v - b .atoms))) w₂ t₂ []
+        → Drives P (b .states) w tail (succs (theoryOf ws) v) w₂ t₂ []
+    node-done s = drives-step P _ [] (sym (append-nil _)) middle s

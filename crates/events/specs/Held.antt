@@ -1,22 +1,16 @@
--- What the words hold while the entries of a row are settled (a worklist) or collected (a component): counts, marks and the queue.
+-- What the words hold while the entries of a row are settled: counts and the queue; and what is said of the tables that have the rows.
 use mathlib.Core.Path.{_≡_}
-use mathlib.Core.Logic.{_⊎_}
 use mathlib.Core.List.{List, map}
-use Prim.Native.Nat.{ℕ, _+_, _-_, _≤_, _<_}
+use Prim.Native.Nat.{ℕ, _+_, _≤_, _<_}
 use lib.ListN.{length, getD, drop}
-use Rattle.theory.specs.Sets.{Set}
 use Rattle.theory.specs.Theory.{Theory}
 use Rattle.theory.specs.Closure.{Mode}
 use Rattle.theory.specs.Worklist.{Worklist}
-use Rattle.theory.specs.Search.{Within, Collecting}
-use Rattle.theory.specs.Prefix.{upto, between}
+use Rattle.theory.specs.Prefix.{upto}
 use Rattle.area.specs.declared.Bases.{Bases}
-use Rattle.area.specs.Marks.{markIn}
 use Rattle.area.specs.Layout.{Laid}
 use Rattle.adjacency.specs.declared.Table.the-variants.{AtomNodes, Parents, ByBody}
 use Rattle.adjacency.specs.Tables.{startAt, Tabled, edgesOf}
-use Rattle.events.specs.declared.Event.{Event}
-use Rattle.events.specs.declared.Event.the-variants.{Settle, Collect}
 
 -- what vertex v waits for
 abbrev pub countAt : Bases → List ℕ → ℕ → ℕ
@@ -26,37 +20,23 @@ countAt b w v = getD w (b .dependencies + v) 0
 abbrev pub queued : Bases → List ℕ → ℕ → List ℕ
 queued b w n = upto n (drop (b .queue) w)
 
--- what a walk is about: of a worklist the modes and the vertices whose rows have been begun; of a search the graph, its root, the vertices that may be a
--- root after it, those of its members whose rows have been begun, and how many vertices of the queue are of other components; and words to hold against, as
--- many of their queue as stay
+-- what a worklist is about: the modes and the predecessors, the vertices whose rows have been begun; and words to hold against, as many of their queue as
+-- stay
 pub record Ctx : Type 0 where
   pub mode : ℕ → Mode
   pub pred : ℕ → List ℕ
   pub done : List ℕ
-  pub graph : Set
-  pub root : ℕ
-  pub earlier : List ℕ
-  pub begun : List ℕ
-  pub from : ℕ
   pub base : List ℕ
   pub front : ℕ
 
-pub record Gathering (b : Bases) (c : Ctx) (w : List ℕ) (t : ℕ) (todo : List ℕ) : Type 0 where
-  pub within : Within (b .atoms + b .nodes) (c .pred) (c .graph)
-  pub after : c .from ≤ t
-  pub collecting : Collecting (b .atoms + b .nodes) (c .pred) (c .graph) (c .root) (c .earlier) (queued b w (c .from)) (between (c .from) (t - c .from) (drop (b .queue) w)) (c .begun) todo (markIn b w)
-
-pub record Held (lim : ℕ) (b : Bases) (event : Event) (c : Ctx) (w : List ℕ) (t : ℕ) (todo : List ℕ) : Type 0 where
+pub record Held (lim : ℕ) (b : Bases) (c : Ctx) (w : List ℕ) (t : ℕ) (todo : List ℕ) : Type 0 where
   pub laid : Laid b
   pub long : b .end ≤ length w
   pub small : b .atoms + b .nodes < lim
-  -- past the queue nothing but marks changes
-  pub kept : (i : ℕ) → b .«body_nodes» ≤ i → (i < b .«founded_atoms») ⊎ (b .«cyclic_atoms» ≤ i) → getD w i 0 ≡ getD (c .base) i 0
-  -- and so do the vertices that were on the queue
+  -- the vertices that were on the queue stay
   pub fore : c .front ≤ t
   pub front : (i : ℕ) → i < c .front → getD w (b .queue + i) 0 ≡ getD (c .base) (b .queue + i) 0
-  pub settling : event ≡ Settle → Worklist (b .atoms + b .nodes) (c .mode) (c .pred) (queued b w t) (c .done) todo (countAt b w)
-  pub collecting : event ≡ Collect → Gathering b c w t todo
+  pub settling : Worklist (b .atoms + b .nodes) (c .mode) (c .pred) (queued b w t) (c .done) todo (countAt b w)
 
 -- nodes as vertices
 abbrev pub shifted : Bases → List ℕ → List ℕ

@@ -1,6 +1,5 @@
 -- A worklist that is run: the rows of the vertices before `head` of the queue have been followed.
 use mathlib.Core.Path.{_≡_}
-use mathlib.Core.Bool.{false}
 use mathlib.Core.List.{List, []}
 use Prim.Native.Nat.{ℕ, _≤_}
 use lib.ListN.{length, take}
@@ -9,7 +8,6 @@ use Rattle.theory.specs.Words.{theoryOf}
 use Rattle.theory.specs.Edges.{preds}
 use Rattle.theory.specs.Closure.{Mode}
 use Rattle.area.specs.declared.Bases.{Bases}
-use Rattle.events.specs.declared.Event.the-variants.{Settle}
 use Rattle.events.specs.Held.{Ctx, Held, queued}
 
 abbrev pub runCtx : (ws : List ℕ) (mode : ℕ → Mode) (done w : List ℕ) (t : ℕ) → Ctx
@@ -17,18 +15,13 @@ runCtx ws mode done w t = record {
   mode = mode;
   pred = preds (theoryOf ws) everyone;
   done = done;
-  graph = λ v. false;
-  root = 0;
-  earlier = [];
-  begun = [];
-  from = 0;
   base = w;
   front = t;
 }
 
 pub record Running (ws : List ℕ) (b : Bases) (mode : ℕ → Mode) (w : List ℕ) (head tail : ℕ) : Type 0 where
   pub ahead : head ≤ tail
-  pub held : Held 65536 b Settle (runCtx ws mode (queued b w head) w tail) w tail []
+  pub held : Held 65536 b (runCtx ws mode (queued b w head) w tail) w tail []
 
 -- from one state of the words to another, whatever the modes are
 pub record Ran (ws : List ℕ) (b : Bases) (w₀ w : List ℕ) (head₀ tail₀ head tail : ℕ) : Type 0 where

@@ -1,5 +1,4 @@
-// The entries of a vertex's row, one after the other, each handed to one step. A step either settles an entry, one thing fewer to wait for, or
-// collects it, a vertex more; the walk over rows and chains is the same.
+// The worklist of the pass: every row of a vertex that is found is followed once, and each entry of it settled, one thing fewer to wait for.
 ghost use mathlib.Core.List.{[], _∷_};
 ghost use Prim.Native.Nat.{ℕ, _+_, _<_, _≤_};
 ghost use lib.ListN.{length, getD};
@@ -11,98 +10,53 @@ ghost use Rattle.theory.specs.Drive.{Follows, Drives};
 ghost use Rattle.area.specs.Layout.{Based};
 ghost use Rattle.adjacency.specs.Tables.{startAt, rowAt};
 ghost use Rattle.events.specs.Held.{Held, shifted, Spanned, Named, Tables};
-ghost use Rattle.events.specs.declared.Event.the-variants.{Settle, Collect};
 ghost use Rattle.events.specs.Run.{Running, Ran};
 ghost use Rattle.theory.specs.Closure.{Mode};
 use area::Bases;
 
-pub enum Event {
-    Settle,
-    Collect,
-}
-
-// One thing fewer that v waits for; after the last one v is found, and goes on the queue.
+// One thing fewer that v waits for, and no branch on whether it waits at all; after the last one v is found, and goes on the queue.
 fn settle(work: &mut [u16], b: Bases, v: usize, tail: usize) -> usize
-    requires { ⌜ Follows (Held 65536 b Settle) (now work) tail (v ∷ []) ⌝ }
-    ensures { λ r. ⌜ Drives (Held 65536 b Settle) (b .states) (now (work .entry)) tail (v ∷ []) (now (work .exit)) r [] ⌝ }
+    requires { ⌜ Follows (Held 65536 b) (now work) tail (v ∷ []) ⌝ }
+    ensures { λ r. ⌜ Drives (Held 65536 b) (b .states) (now (work .entry)) tail (v ∷ []) (now (work .exit)) r [] ⌝ }
 {
     let n = graph::at(work, b.dependencies + v);
-    if n == 0 {
+    if n != 1 {
+        let one = (n > 0) as usize;
+        area::put(work, b.dependencies + v, n - one);
         return tail;
     }
-    area::put(work, b.dependencies + v, n - 1);
-    if n > 1 {
-        return tail;
-    }
+    area::put(work, b.dependencies + v, 0);
     area::put(work, b.queue + tail, v);
     tail + 1
-}
-
-// v, if the second walk has not met it, is met, and goes on the queue.
-fn collect(work: &mut [u16], b: Bases, v: usize, tail: usize) -> usize
-    requires { ⌜ Follows (Held 65536 b Collect) (now work) tail (v ∷ []) ⌝ }
-    ensures { λ r. ⌜ Drives (Held 65536 b Collect) (b .states) (now (work .entry)) tail (v ∷ []) (now (work .exit)) r [] ⌝ }
-{
-    let m = area::mark(b, v);
-    if graph::at(work, m) != 2 {
-        return tail;
-    }
-    area::put(work, m, 3);
-    area::put(work, b.queue + tail, v);
-    tail + 1
-}
-
-fn visit(work: &mut [u16], b: Bases, event: Event, v: usize, tail: usize) -> usize
-    requires { ⌜ Follows (Held 65536 b event) (now work) tail (v ∷ []) ⌝ }
-    ensures { λ r. ⌜ Drives (Held 65536 b event) (b .states) (now (work .entry)) tail (v ∷ []) (now (work .exit)) r [] ⌝ }
-{
-    match event {
-        Event::Settle => settle(work, b, v, tail),
-        Event::Collect => collect(work, b, v, tail),
-    }
 }
 
 // The nodes that stand in the tables from one place to another.
-fn visit_nodes(
-    work: &mut [u16],
-    b: Bases,
-    event: Event,
-    from: usize,
-    to: usize,
-    tail: usize,
-) -> usize
+fn visit_nodes(work: &mut [u16], b: Bases, from: usize, to: usize, tail: usize) -> usize
     requires { ⌜ (from ≤ to) × (to ≤ b .states) ⌝ }
-    requires { ⌜ Follows (Held 65536 b event) (now work) tail (shifted b (slice from to (now work))) ⌝ }
-    ensures { λ r. ⌜ Drives (Held 65536 b event) (b .states) (now (work .entry)) tail (shifted b (slice from to (now (work .entry)))) (now (work .exit)) r [] ⌝ }
+    requires { ⌜ Follows (Held 65536 b) (now work) tail (shifted b (slice from to (now work))) ⌝ }
+    ensures { λ r. ⌜ Drives (Held 65536 b) (b .states) (now (work .entry)) tail (shifted b (slice from to (now (work .entry)))) (now (work .exit)) r [] ⌝ }
 {
     let mut t = tail;
     let mut i = from;
     while i < to {
-        t = visit(work, b, event, b.atoms + graph::at(work, i), t);
+        t = settle(work, b, b.atoms + graph::at(work, i), t);
         i += 1;
     }
     t
 }
 
 // The heads of a producer.
-fn visit_heads(
-    graph: &[u16],
-    work: &mut [u16],
-    b: Bases,
-    event: Event,
-    p: usize,
-    tail: usize,
-) -> usize
+fn visit_heads(graph: &[u16], work: &mut [u16], b: Bases, p: usize, tail: usize) -> usize
     requires { ⌜ Accepted edition1 (now graph) × (p < getD (now graph) 3 0) ⌝ }
-    requires { ⌜ Follows (Held 65536 b event) (now work) tail (theoryOf (now graph) .heads p) ⌝ }
-    ensures { λ r. ⌜ Drives (Held 65536 b event) (b .states) (now (work .entry)) tail (theoryOf (now (graph .entry)) .heads p) (now (work .exit)) r [] ⌝ }
+    requires { ⌜ Follows (Held 65536 b) (now work) tail (theoryOf (now graph) .heads p) ⌝ }
+    ensures { λ r. ⌜ Drives (Held 65536 b) (b .states) (now (work .entry)) tail (theoryOf (now (graph .entry)) .heads p) (now (work .exit)) r [] ⌝ }
 {
     let mut t = tail;
     let mut l = graph::first_head(graph, p);
     while l > 0 {
         let v = graph::value(graph, l);
         l = graph::next(graph, l);
-        t = visit(work, b, event, v, t);
+        t = settle(work, b, v, t);
     }
     t
 }
@@ -112,80 +66,57 @@ fn visit_producers(
     graph: &[u16],
     work: &mut [u16],
     b: Bases,
-    event: Event,
     from: usize,
     to: usize,
     tail: usize,
 ) -> usize
     requires { ⌜ Accepted edition1 (now graph) × (from ≤ to) × (to ≤ b .states) × Named (now graph) (now work) from to ⌝ }
-    requires { ⌜ Follows (Held 65536 b event) (now work) tail (flatMap (theoryOf (now graph) .heads) (slice from to (now work))) ⌝ }
-    ensures { λ r. ⌜ Drives (Held 65536 b event) (b .states) (now (work .entry)) tail (flatMap (theoryOf (now (graph .entry)) .heads) (slice from to (now (work .entry)))) (now (work .exit)) r [] ⌝ }
+    requires { ⌜ Follows (Held 65536 b) (now work) tail (flatMap (theoryOf (now graph) .heads) (slice from to (now work))) ⌝ }
+    ensures { λ r. ⌜ Drives (Held 65536 b) (b .states) (now (work .entry)) tail (flatMap (theoryOf (now (graph .entry)) .heads) (slice from to (now (work .entry)))) (now (work .exit)) r [] ⌝ }
 {
     let mut t = tail;
     let mut i = from;
     while i < to {
-        t = visit_heads(graph, work, b, event, graph::at(work, i), t);
+        t = visit_heads(graph, work, b, graph::at(work, i), t);
         i += 1;
     }
     t
 }
 
-fn visit_row(
-    work: &mut [u16],
-    b: Bases,
-    event: Event,
-    base: usize,
-    rows: usize,
-    r: usize,
-    tail: usize,
-) -> usize
+fn visit_row(work: &mut [u16], b: Bases, base: usize, rows: usize, r: usize, tail: usize) -> usize
     requires { ⌜ Spanned (b .states) (now work) base rows r ⌝ }
-    requires { ⌜ Follows (Held 65536 b event) (now work) tail (shifted b (rowAt (now work) base rows r)) ⌝ }
-    ensures { λ x. ⌜ Drives (Held 65536 b event) (b .states) (now (work .entry)) tail (shifted b (rowAt (now (work .entry)) base rows r)) (now (work .exit)) x [] ⌝ }
+    requires { ⌜ Follows (Held 65536 b) (now work) tail (shifted b (rowAt (now work) base rows r)) ⌝ }
+    ensures { λ x. ⌜ Drives (Held 65536 b) (b .states) (now (work .entry)) tail (shifted b (rowAt (now (work .entry)) base rows r)) (now (work .exit)) x [] ⌝ }
 {
     let from = adjacency::row_start(work, base, rows, r);
     let to = adjacency::row_start(work, base, rows, r + 1);
-    visit_nodes(work, b, event, from, to, tail)
+    visit_nodes(work, b, from, to, tail)
 }
 
 // The heads of the producers whose body is node m.
-fn visit_body(
-    graph: &[u16],
-    work: &mut [u16],
-    b: Bases,
-    event: Event,
-    m: usize,
-    tail: usize,
-) -> usize
+fn visit_body(graph: &[u16], work: &mut [u16], b: Bases, m: usize, tail: usize) -> usize
     requires { ⌜ Accepted edition1 (now graph) × Spanned (b .states) (now work) (b .«by_body») (b .nodes) m ⌝ }
     requires { ⌜ Named (now graph) (now work) (startAt (now work) (b .«by_body») (b .nodes) m) (startAt (now work) (b .«by_body») (b .nodes) (m + 1)) ⌝ }
-    requires { ⌜ Follows (Held 65536 b event) (now work) tail (flatMap (theoryOf (now graph) .heads) (rowAt (now work) (b .«by_body») (b .nodes) m)) ⌝ }
-    ensures { λ x. ⌜ Drives (Held 65536 b event) (b .states) (now (work .entry)) tail (flatMap (theoryOf (now (graph .entry)) .heads) (rowAt (now (work .entry)) (b .«by_body») (b .nodes) m)) (now (work .exit)) x [] ⌝ }
+    requires { ⌜ Follows (Held 65536 b) (now work) tail (flatMap (theoryOf (now graph) .heads) (rowAt (now work) (b .«by_body») (b .nodes) m)) ⌝ }
+    ensures { λ x. ⌜ Drives (Held 65536 b) (b .states) (now (work .entry)) tail (flatMap (theoryOf (now (graph .entry)) .heads) (rowAt (now (work .entry)) (b .«by_body») (b .nodes) m)) (now (work .exit)) x [] ⌝ }
 {
     let from = adjacency::row_start(work, b.by_body, b.nodes, m);
     let to = adjacency::row_start(work, b.by_body, b.nodes, m + 1);
-    visit_producers(graph, work, b, event, from, to, tail)
+    visit_producers(graph, work, b, from, to, tail)
 }
 
 // Every entry of the row of vertex v.
-pub fn visit_vertex(
-    graph: &[u16],
-    work: &mut [u16],
-    b: Bases,
-    event: Event,
-    v: usize,
-    tail: usize,
-) -> usize
+fn visit_vertex(graph: &[u16], work: &mut [u16], b: Bases, v: usize, tail: usize) -> usize
     requires { ⌜ Accepted edition1 (now graph) × Based (now graph) (length (now work)) b × (v < b .atoms + b .nodes) × Tables (theoryOf (now graph)) b (now work) ⌝ }
-    requires { ⌜ Follows (Held 65536 b event) (now work) tail (succs (theoryOf (now graph)) v) ⌝ }
-    ensures { λ x. ⌜ Drives (Held 65536 b event) (b .states) (now (work .entry)) tail (succs (theoryOf (now (graph .entry))) v) (now (work .exit)) x [] ⌝ }
+    requires { ⌜ Follows (Held 65536 b) (now work) tail (succs (theoryOf (now graph)) v) ⌝ }
+    ensures { λ x. ⌜ Drives (Held 65536 b) (b .states) (now (work .entry)) tail (succs (theoryOf (now (graph .entry))) v) (now (work .exit)) x [] ⌝ }
 {
     if v < b.atoms {
-        return visit_row(work, b, event, b.atom_nodes, b.atoms, v, tail);
+        return visit_row(work, b, b.atom_nodes, b.atoms, v, tail);
     }
     let m = v - b.atoms;
-    let t = visit_row(work, b, event, b.parents, b.nodes, m, tail);
-    visit_body(graph, work, b, event, m, t)
+    let t = visit_row(work, b, b.parents, b.nodes, m, tail);
+    visit_body(graph, work, b, m, t)
 }
 
 // Every vertex on the queue, in turn: the rows of those that are found on the way too.
@@ -198,7 +129,7 @@ pub fn settle_all(graph: &[u16], work: &mut [u16], b: Bases, first: usize) -> us
     let mut tail = first;
     while head < tail {
         let v = graph::at(work, b.queue + head);
-        tail = visit_vertex(graph, work, b, Event::Settle, v, tail);
+        tail = visit_vertex(graph, work, b, v, tail);
         head += 1;
     }
     tail

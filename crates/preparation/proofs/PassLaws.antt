@@ -27,7 +27,6 @@ use Rattle.area.specs.declared.Bases.{Bases}
 use Rattle.area.specs.Layout.{Based}
 use Rattle.events.specs.Held.{Tables, countAt, queued}
 use Rattle.events.specs.Run.{Running, Ran}
-use Rattle.events.proofs.SettleLaws.{settle-only}
 use Rattle.events.proofs.RunLaws.{run-end}
 use Rattle.events.proofs.VertexLaws.{tables-same}
 use Rattle.cones.specs.Cones as cones
@@ -108,11 +107,9 @@ module _ {ws : List ℕ} {ed : Edition} (acc : Accepted ed ws) {b : Bases} {w : 
           laid = based .laid;
           long = let e = based₂ .ends in e;
           small = small;
-          kept = λ i l q. refl;
           fore = omega arith;
           front = λ i l. refl;
-          settling = λ e. rw bound at (worklist-start (vertices (theoryOf ws)) (passMode (theoryOf ws) (cyclicCone (theoryOf ws)) never atomNever) (preds (theoryOf ws) everyone) (g .started));
-          collecting = λ e. settle-only e;
+          settling = rw bound at (worklist-start (vertices (theoryOf ws)) (passMode (theoryOf ws) (cyclicCone (theoryOf ws)) never atomNever) (preds (theoryOf ws) everyone) (g .started));
         };
       }
 
@@ -120,7 +117,7 @@ module _ {ws : List ℕ} {ed : Edition} (acc : Accepted ed ws) {b : Bases} {w : 
 
       module _ {w₃ : List ℕ} (u : ℕ) (r : Running ws b (passMode (theoryOf ws) (cyclicCone (theoryOf ws)) never atomNever) w₃ u u) where
         list : Worklist (b .atoms + b .nodes) (passMode (theoryOf ws) (cyclicCone (theoryOf ws)) never atomNever) (preds (theoryOf ws) everyone) (queued b w₃ u) (queued b w₃ u) [] (countAt b w₃)
-        list = r .held .settling refl
+        list = r .held .settling
 
         module _ (a : ℕ) (l : a < b .atoms) where
           low : a < theoryOf ws .atoms

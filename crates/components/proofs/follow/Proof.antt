@@ -8,7 +8,7 @@ use Rattle.components.proofs.follow.Statement.{statement}
 use Rattle.components.proofs.follow.Tie as tie
 use Rattle.components.proofs.follow.Reads as reads
 use Rattle.components.proofs.follow.Lts as lts
-use Rattle.events.proofs.visit_vertex.Reads as visit-vertex-reads
+use Rattle.components.proofs.collecting.collect_vertex.Reads as collect-vertex-reads
 use Rattle.graph.proofs.at.Reads as at-reads
 
 abbrev Inv-loop : tie.InvT-loop
@@ -46,8 +46,8 @@ at-requires c κs =
     let c-args = p1 .args in
     let r = c-loop .inv in let t = tail-low (c-pre .0) (c-pre .1) (c-args .n) (c-args .found) (c-loop .head) (c-loop .tail) r in let l = c-pre .1 .laid in let q = r .held .long in let z = c-loop-test .taken in omega arith
 
-visit-vertex-requires : tie.Need-visit-vertex-requires Inv-loop μ-loop
-visit-vertex-requires c κs =
+collect-vertex-requires : tie.Need-collect-vertex-requires Inv-loop μ-loop
+collect-vertex-requires c κs =
     let c-at = c .before .at in
     let p1 = c .before .before .before .before in
     let c-loop-test = p1 .loop-test in
@@ -79,7 +79,7 @@ loop-less c =
 
 loop-again : tie.Need-loop-again Inv-loop μ-loop
 loop-again c =
-    let c-visit-vertex = c .before .before .visit-vertex in
+    let c-collect-vertex = c .before .before .collect-vertex in
     let p1 = c .before .before .before .before in
     let c-at = p1 .at in
     let c-loop-test = p1 .before .before .before .loop-test in
@@ -87,7 +87,7 @@ loop-again c =
     let c-loop = p2 .loop in
     let c-pre = p2 .before .before .before .pre in
     let c-args = p2 .before .before .before .args in
-    turn-next (c-pre .0) (c-pre .1) (c-args .n) (c-args .found) (c-loop .head) (c-loop .tail) (c-loop .inv) (c-loop-test .taken) (c-at .ensures .0) (c-visit-vertex .ensures)
+    turn-next (c-pre .0) (c-pre .1) (c-args .n) (c-args .found) (c-loop .head) (c-loop .tail) (c-loop .inv) (c-loop-test .taken) (c-at .ensures .0) (c-collect-vertex .ensures)
 
 same-length : tie.Need-same-length Inv-loop μ-loop
 same-length c =
@@ -110,7 +110,7 @@ follow-spec =
     loop-holds
     add-at
     at-requires
-    visit-vertex-requires
+    collect-vertex-requires
     add-head
     loop-less
     loop-again

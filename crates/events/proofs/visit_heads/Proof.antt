@@ -14,16 +14,16 @@ use Rattle.events.proofs.visit_heads.Statement.{statement}
 use Rattle.events.proofs.visit_heads.Tie as tie
 use Rattle.events.proofs.visit_heads.Reads as reads
 use Rattle.events.proofs.visit_heads.Lts as lts
-use Rattle.events.proofs.visit.Reads as visit-reads
+use Rattle.events.proofs.settle.Reads as settle-reads
 use Rattle.graph.proofs.first_head.Reads as first-head-reads
 use Rattle.graph.proofs.next.Reads as next-reads
 use Rattle.graph.proofs.value.Reads as value-reads
 
 abbrev Inv-loop : tie.InvT-loop
-Inv-loop graph work₀ b event p tail t₀ l₀ work t l = Ending graph l × Drives (Held 65536 b event) (b .states) work₀ tail (theoryOf graph .heads p) work t (chain graph l)
+Inv-loop graph work₀ b p tail t₀ l₀ work t l = Ending graph l × Drives (Held 65536 b) (b .states) work₀ tail (theoryOf graph .heads p) work t (chain graph l)
 
 abbrev μ-loop : tie.MeasureT-loop
-μ-loop graph work₀ b event p tail t₀ l₀ work t l = length (chain graph l)
+μ-loop graph work₀ b p tail t₀ l₀ work t l = length (chain graph l)
 
 first-head-requires : tie.Need-first-head-requires Inv-loop μ-loop
 first-head-requires c κs =
@@ -35,7 +35,7 @@ loop-holds c =
     let c-first-head = c .first-head in
     let c-pre = c .before .before .before .pre in
     let c-args = c .before .before .before .args in
-    (rw (c-first-head .ensures) (c-pre .0 .0 .head-chain (c-args .p) (c-pre .0 .1)), rw (c-first-head .ensures, ← the-heads (now (c-args .graph)) (c-args .p)) (drives-none (Held 65536 (c-args .b) (c-args .event))))
+    (rw (c-first-head .ensures) (c-pre .0 .0 .head-chain (c-args .p) (c-pre .0 .1)), rw (c-first-head .ensures, ← the-heads (now (c-args .graph)) (c-args .p)) (drives-none (Held 65536 (c-args .b))))
 
 value-requires : tie.Need-value-requires Inv-loop μ-loop
 value-requires c κs =
@@ -51,14 +51,14 @@ next-requires c κs =
     let c-pre = p1 .pre in
     link-in (c-pre .0 .0) (c-loop .inv .0) (omega arith)
 
-visit-requires : tie.Need-visit-requires Inv-loop μ-loop
-visit-requires c κs =
+settle-requires : tie.Need-settle-requires Inv-loop μ-loop
+settle-requires c κs =
     let c-value = c .before .before .value in
     let c-loop = c .before .before .before .before .loop in
     let p1 = c .before .before .before .before .before .before .before .before in
     let c-args = p1 .args in
     let c-pre = p1 .pre in
-    turn-next (Held 65536 (c-args .b) (c-args .event)) (λ l. l) (λ x. x ∷ []) (λ x l. refl) (c-loop .inv .1) (chain-turn (now (c-args .graph)) (c-loop .inv .0) (omega arith) (c-value .ensures) refl) (c-pre .1)
+    turn-next (Held 65536 (c-args .b)) (λ l. l) (λ x. x ∷ []) (λ x l. refl) (c-loop .inv .1) (chain-turn (now (c-args .graph)) (c-loop .inv .0) (omega arith) (c-value .ensures) refl) (c-pre .1)
 
 loop-less : tie.Need-loop-less Inv-loop μ-loop
 loop-less c =
@@ -72,13 +72,13 @@ loop-less c =
 loop-again : tie.Need-loop-again Inv-loop μ-loop
 loop-again c =
     let c-next = c .before .before .before .before .next in
-    let c-visit = c .before .before .visit in
+    let c-settle = c .before .before .settle in
     let p1 = c .before .before .before .before in
     let c-value = p1 .before .value in
     let c-loop = p1 .before .before .before .loop in
     let p2 = p1 .before .before .before .before .before .before .before in
     let c-args = p2 .args in
-    rw (c-next .ensures) (ending-next (now (c-args .graph)) (c-loop .inv .0) (omega arith), turn-more (Held 65536 (c-args .b) (c-args .event)) (λ l. l) (λ x. x ∷ []) (λ x l. refl) (c-loop .inv .1) (chain-turn (now (c-args .graph)) (c-loop .inv .0) (omega arith) (c-value .ensures) refl) (c-visit .ensures))
+    rw (c-next .ensures) (ending-next (now (c-args .graph)) (c-loop .inv .0) (omega arith), turn-more (Held 65536 (c-args .b)) (λ l. l) (λ x. x ∷ []) (λ x l. refl) (c-loop .inv .1) (chain-turn (now (c-args .graph)) (c-loop .inv .0) (omega arith) (c-value .ensures) refl) (c-settle .ensures))
 
 same-length : tie.Need-same-length Inv-loop μ-loop
 same-length c = search needs
@@ -100,7 +100,7 @@ visit-heads-spec =
     loop-holds
     value-requires
     next-requires
-    visit-requires
+    settle-requires
     loop-less
     loop-again
     same-length

@@ -5,10 +5,10 @@ use lib.Seq.{slice}
 use Rattle.theory.specs.Words.{theoryOf}
 use Rattle.theory.specs.Rows.{flatMap}
 use Rattle.theory.specs.Drive.{Drives}
-use Rattle.theory.proofs.DriveLaws.{drives-none, turn-next, turn-more, turn-done}
+use Rattle.theory.proofs.DriveLaws.{drives-none}
 use Rattle.events.specs.Held.{Held}
-use Rattle.events.proofs.TurnLaws.{tables-long, word-same, row-turn, row-end}
-use Rattle.events.proofs.FlatLaws.{flat-cons, flat-none}
+use Rattle.events.proofs.TurnLaws.{word-same, flat-next, flat-more, flat-done}
+use Rattle.events.proofs.SettleLaws.{tables-long}
 use borrow.Author.Needs.{needs}
 use Rattle.events.proofs.visit_producers.Statement.{statement}
 use Rattle.events.proofs.visit_producers.Tie as tie
@@ -18,23 +18,23 @@ use Rattle.events.proofs.visit_heads.Reads as visit-heads-reads
 use Rattle.graph.proofs.at.Reads as at-reads
 
 abbrev Inv-loop : tie.InvT-loop
-Inv-loop graph work₀ b event from to tail t₀ i₀ work t i = (from ≤ i) × (i ≤ to) × Drives (Held 65536 b event) (b .states) work₀ tail (flatMap (theoryOf graph .heads) (slice from to work₀)) work t (flatMap (theoryOf graph .heads) (slice i to work₀))
+Inv-loop graph work₀ b from to tail t₀ i₀ work t i = (from ≤ i) × (i ≤ to) × Drives (Held 65536 b) (b .states) work₀ tail (flatMap (theoryOf graph .heads) (slice from to work₀)) work t (flatMap (theoryOf graph .heads) (slice i to work₀))
 
 abbrev μ-loop : tie.MeasureT-loop
-μ-loop graph work₀ b event from to tail t₀ i₀ work t i = to - i
+μ-loop graph work₀ b from to tail t₀ i₀ work t i = to - i
 
 loop-holds : tie.Need-loop-holds Inv-loop μ-loop
 loop-holds c =
     let c-pre = c .before .before .pre in
     let c-args = c .before .before .args in
-    (omega arith, c-pre .0 .1, drives-none (Held 65536 (c-args .b) (c-args .event)))
+    (omega arith, c-pre .0 .1, drives-none (Held 65536 (c-args .b)))
 
 at-requires : tie.Need-at-requires Inv-loop μ-loop
 at-requires c κs =
     let c-loop = c .before .before .before .loop in
     let p1 = c .before .before .before .before .before .before in
     let c-pre = p1 .pre in
-    let r = tables-long (c-pre .1) (c-loop .inv .2) in omega arith
+    let r = tables-long (c-pre .1) in let s = c-loop .inv .2 .size in omega arith
 
 visit-heads-requires : tie.Need-visit-heads-requires Inv-loop μ-loop
 visit-heads-requires c κs =
@@ -44,8 +44,8 @@ visit-heads-requires c κs =
     let c-loop = p1 .loop in
     let c-pre = p1 .before .before .before .pre in
     let c-args = p1 .before .before .before .args in (
-      (c-pre .0 .0, rw (word-same (c-pre .1) (c-loop .inv .2) (let k = c-pre .0 .2 in let z = c-loop-test .taken in omega arith) (c-at .ensures .0)) (c-pre .0 .3 (c-loop .i) (c-loop .inv .0) (c-loop-test .taken))),
-      turn-next (Held 65536 (c-args .b) (c-args .event)) (flatMap (theoryOf (now (c-args .graph)) .heads)) (theoryOf (now (c-args .graph)) .heads) (flat-cons (theoryOf (now (c-args .graph)) .heads)) (c-loop .inv .2) (row-turn (c-pre .1) (c-loop .inv .2) (c-pre .0 .2) (c-loop-test .taken) (c-at .ensures .0)) (c-pre .1),
+      (c-pre .0 .0, rw (word-same (c-loop .inv .2) (let k = c-pre .0 .2 in let z = c-loop-test .taken in omega arith) (c-at .ensures .0)) (c-pre .0 .3 (c-loop .i) (c-loop .inv .0) (c-loop-test .taken))),
+      flat-next (theoryOf (now (c-args .graph)) .heads) (c-loop .i) (c-args .to) (c-loop .inv .2) (tables-long (c-pre .1)) (c-pre .0 .2) (c-loop-test .taken) (c-at .ensures .0) (c-pre .1),
     )
 
 add-i : tie.Need-add-i Inv-loop μ-loop
@@ -64,7 +64,7 @@ loop-again c =
     let p2 = p1 .before .before .before .before in
     let c-args = p2 .args in
     let c-pre = p2 .pre in
-    (omega arith, omega arith, turn-more (Held 65536 (c-args .b) (c-args .event)) (flatMap (theoryOf (now (c-args .graph)) .heads)) (theoryOf (now (c-args .graph)) .heads) (flat-cons (theoryOf (now (c-args .graph)) .heads)) (c-loop .inv .2) (row-turn (c-pre .1) (c-loop .inv .2) (c-pre .0 .2) (c-loop-test .taken) (c-at .ensures .0)) (c-visit-heads .ensures))
+    (omega arith, omega arith, flat-more (theoryOf (now (c-args .graph)) .heads) (c-loop .i) (c-args .to) (c-loop .inv .2) (tables-long (c-pre .1)) (c-pre .0 .2) (c-loop-test .taken) (c-at .ensures .0) (c-visit-heads .ensures))
 
 same-length : tie.Need-same-length Inv-loop μ-loop
 same-length c = search needs
@@ -75,7 +75,7 @@ returns c =
     let c-loop = c .before .loop in
     let p1 = c .before .before .before .before in
     let c-args = p1 .args in
-    turn-done (Held 65536 (c-args .b) (c-args .event)) (flatMap (theoryOf (now (c-args .graph)) .heads)) (theoryOf (now (c-args .graph)) .heads) (flat-cons (theoryOf (now (c-args .graph)) .heads)) (c-loop .inv .2) (row-end (c-loop .i) (c-args .to) (now (c-args .work)) (c-loop-test .left) (c-loop .inv .1)) (flat-none (theoryOf (now (c-args .graph)) .heads))
+    flat-done (theoryOf (now (c-args .graph)) .heads) (c-loop .i) (c-args .to) (c-loop .inv .2) (c-loop-test .left) (c-loop .inv .1)
 
 pub visit-producers-spec : {M : Type 1} → statement M
 visit-producers-spec =
