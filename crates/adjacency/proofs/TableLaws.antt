@@ -120,19 +120,6 @@ module _ {n : ℕ} {w : List ℕ} {base rows : ℕ} {edges : List Edge} (x : Tab
   pub wider : (m : ℕ) → n ≤ m → m ≤ length w → Tabled m w base rows edges
   wider m h k = record { long = k; rising = x .rising; inside = λ r l. let i = x .inside r l in omega arith; row = x .row }
 
--- row r lies within the first n words
-pub record Span (n : ℕ) (w : List ℕ) (base rows r : ℕ) : Type 0 where
-  pub row : r < rows
-  pub rises : startAt w base rows r ≤ startAt w base rows (r + 1)
-  pub ends : startAt w base rows (r + 1) ≤ n
-  pub room : n ≤ length w
-
-pub span : {n : ℕ} {w : List ℕ} {base rows : ℕ} {edges : List Edge} → Tabled n w base rows edges → (r : ℕ) → r < rows → Span n w base rows r
-span t r h = record { row = h; rises = t .rising r h; ends = t .inside (r + 1) (omega arith); room = t .long }
-
-pub span-asks : {n : ℕ} {w : List ℕ} {base rows r : ℕ} → Span n w base rows r → (r < rows) × (base + (rows + 1) ≤ length w)
-span-asks x = let a = x .ends in let b = x .room in (x .row, omega arith)
-
 -- a table in a part from a to e
 pub placed : {rows : ℕ} {edges : List Edge} (a e : ℕ) (w p : List ℕ) → a ≤ e → e ≤ length w → length p ≡ e - a → Tabled (length p) p 0 rows edges
     → Tabled e (take a w ++ (p ++ drop (e - a) (drop a w))) a rows edges

@@ -46,10 +46,11 @@ fn place_chain(
     requires { ⌜ Follows (Building 65536 filling rows) (now part) 0 (tagged item (chain (now graph) first)) ⌝ }
     ensures { λ _. ⌜ Drives (Building 65536 filling rows) 0 (now (part .entry)) 0 (tagged item (chain (now (graph .entry)) first)) (now (part .exit)) 0 [] ⌝ }
 {
+    let links = graph::link_records(graph);
     let mut l = first;
     while l > 0 {
-        let row = graph::value(graph, l);
-        l = graph::next(graph, l);
+        let row = graph::value(links, l);
+        l = graph::next(links, l);
         place(part, rows, filling, row, item);
     }
 }
@@ -199,20 +200,4 @@ pub fn row_start(work: &[u16], base: usize, rows: usize, r: usize) -> usize
     ensures { λ x. ⌜ x ≡ startAt (now (work .entry)) base rows r ⌝ }
 {
     base + (rows + 1) + graph::at(work, base + r)
-}
-
-// A row's entries.
-pub struct Row {
-    pub from: usize,
-    pub to: usize,
-}
-
-pub fn row_at(work: &[u16], base: usize, rows: usize, r: usize) -> Row
-    requires { ⌜ (r < rows) × (base + (rows + 1) ≤ length (now work)) ⌝ }
-    ensures { λ x. ⌜ (x .from ≡ startAt (now (work .entry)) base rows r) × (x .to ≡ startAt (now (work .entry)) base rows (r + 1)) ⌝ }
-{
-    Row {
-        from: row_start(work, base, rows, r),
-        to: row_start(work, base, rows, r + 1),
-    }
 }

@@ -18,14 +18,15 @@ pub record Laid (b : Bases) : Type 0 where
   -- a word a vertex
   pub dependencies : b .dependencies + (b .atoms + b .nodes) ≤ b .queue
   pub queue : b .queue + (b .atoms + b .nodes) ≤ b .«body_nodes»
-  pub body-nodes : b .«body_nodes» + (b .atoms + b .nodes) ≤ b .«fact_rows»
+  -- and one that is stored past the end of a list
+  pub body-nodes : b .«body_nodes» + (b .atoms + b .nodes + 1) ≤ b .«fact_rows»
   pub fact-rows : b .«fact_rows» + b .producers ≤ b .«founded_atoms»
   pub founded-atoms : b .«founded_atoms» + b .atoms ≤ b .«cyclic_atoms»
   pub cyclic-atoms : b .«cyclic_atoms» + b .atoms ≤ b .end
 
 -- how many words that takes
 abbrev pub wordsFor : (atoms nodes producers leaves heads : ℕ) → ℕ
-wordsFor atoms nodes producers leaves heads = 7 * atoms + 8 * nodes + 2 * producers + leaves + heads + 4
+wordsFor atoms nodes producers leaves heads = 7 * atoms + 8 * nodes + 2 * producers + leaves + heads + 5
 
 pub record LaidOut (atoms nodes producers leaves heads : ℕ) (b : Bases) : Type 0 where
   pub laid : Laid b

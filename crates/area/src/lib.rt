@@ -62,7 +62,7 @@ pub fn lay_out(
     let dependencies = states + 2 * nodes;
     let queue = dependencies + (atoms + nodes);
     let body_nodes = queue + (atoms + nodes);
-    let fact_rows = body_nodes + (atoms + nodes);
+    let fact_rows = body_nodes + (atoms + nodes + 1);
     let founded_atoms = fact_rows + producers;
     let cyclic_atoms = founded_atoms + atoms;
     Bases {

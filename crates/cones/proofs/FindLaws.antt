@@ -4,7 +4,7 @@ use mathlib.Core.Path.{_≡_, refl, sym, ap, _∙_, subst}
 use mathlib.Core.Logic.{_⊎_, inl, inr, _≢_}
 use mathlib.Core.Bool.{Bool, true, false, cond}
 use mathlib.Core.List.{List, [], _∷_, _++_, List·Memᴰ·head, List·Memᴰ·tail, List·Memᴰ·cases-cons, List·Memᴰ·not-nil, List·Memᴰ·eq-of-singleton, List·Memᴰ·append-cases, Memᴰ·append-left, Memᴰ·append-right}
-use Prim.Native.Nat.{ℕ, suc, _<_}
+use Prim.Native.Nat.{ℕ, suc, _≤_, _<_}
 use native.Mathlib.Nat.{not-suc-le-zero}
 use native.Mathlib.Omega.{arith}
 use native.Mathlib.Decide.{ℕ-discrete}
@@ -26,7 +26,7 @@ distinct-last (y ∷ l) x d n = ((λ m. go (List·Memᴰ·append-cases l m)), di
     go (inl m) = d .0 m
     go (inr m) = n (List·Memᴰ·head (sym (List·Memᴰ·eq-of-singleton m)))
 
-same-test : (a b : Bool) → (Is a → Is b) → (Is b → Is a) → a ≡ b
+pub same-test : (a b : Bool) → (Is a → Is b) → (Is b → Is a) → a ≡ b
 same-test true b f g = sym (f refl)
 same-test false b f g = sym (is-false b (λ p. clash (g p) refl))
 
@@ -60,16 +60,27 @@ module _ {th : Theory} {wanted : Set} where
         go (inl e) = inl (subst (λ (z : ℕ). Mem z found′) (sym e) here)
         go (inr m) = inr m
 
+    pub find-mark : mark y ≤ 1
+    find-mark = let k = f .marks y find-low in go (member y found) k
+      where
+        go : (t : Bool) → mark y ≡ cond t 1 0 → mark y ≤ 1
+        go true e = omega arith
+        go false e = omega arith
+
     -- it is found already
-    pub find-skip : 0 < mark y → Finding th wanted p found begun todo mark
-    find-skip h = record {
+    pub find-skip : mark y ≡ 1 → {mark′ : ℕ → ℕ} → mark′ y ≡ 1 → ((n : ℕ) → n < th .nodes → n ≢ y → mark′ n ≡ mark n) → Finding th wanted p found begun todo mark′
+    find-skip h {mark′} here others = record {
       once = f .once;
       sound = f .sound;
       ahead = λ n m. f .ahead n (List·Memᴰ·tail m);
       due = λ n d. later (λ x m. m) (known (bool-cases (member y found))) n (f .due n d);
-      marks = f .marks;
+      marks = λ n l. same n l (ℕ-discrete n y) ∙ f .marks n l;
     }
       where
+        same : (n : ℕ) → n < th .nodes → Dec (n ≡ y) → mark′ n ≡ mark n
+        same n l (yes e) = subst (λ (z : ℕ). mark′ z ≡ mark z) (sym e) (here ∙ sym h)
+        same n l (no d) = others n l d
+
         known : (member y found ≡ true) ⊎ (member y found ≡ false) → Mem y found
         known (inl e) = member-mem y found e
         known (inr e) = let k = f .marks y find-low ∙ ap (λ (t : Bool). cond t 1 0) e in absurd (omega arith)

@@ -1,67 +1,82 @@
--- The heads of a producer, link after link (`heads-start`): one that makes the producer wanted (`heads-any`, `heads-here`), one that does not (`heads-more`),
--- and no more (`heads-none`).
+-- The heads of a producer: those along a chain, link after link (`heads-start`, `heads-next`, `heads-end`), and when one makes the producer wanted
+-- (`wanted-cyclic`, `wanted-some`).
 use mathlib.Core.Path.{_≡_, refl, sym, ap, _∙_}
-use mathlib.Core.Bool.{Bool, true, false, not, _||_}
-use mathlib.Core.List.{List, [], _∷_, List·Memᴰ·head, List·Memᴰ·tail}
-use Prim.Native.Nat.{ℕ, _+_, _<_}
-use borrow.Author.Tests.{not-true, not-false}
+use mathlib.Core.Bool.{Bool, true, false, _||_}
+use mathlib.Core.List.{List, List·Memᴰ·head, List·Memᴰ·tail}
+use Prim.Native.Nat.{ℕ, zero, suc, _+_, _<_}
+use native.Mathlib.Omega.{arith}
+use borrow.Author.Tests.{lt-ltb}
+use lib.Dec.{eqb, ltb}
 use lib.ListN.{getD}
 use Rattle.theory.specs.Sets.{Mem, any, filled}
 use Rattle.theory.specs.Words.{producerAt, valueOf, nextOf, chain, Ending, theoryOf}
 use Rattle.theory.specs.Founded.{cyclic}
 use Rattle.theory.specs.Accepted.{Edition, Accepted}
-use Rattle.theory.proofs.SetLaws.{is-false, or-left}
+use Rattle.theory.proofs.SetLaws.{eq-is, is-eq}
 use Rattle.theory.proofs.ChainLaws.{ending-next, chain-end, chain-step}
+use Rattle.graph.proofs.DecodeLaws.{the-heads}
 use Rattle.area.specs.declared.Bases.{Bases}
 use Rattle.cones.specs.Cones.{picked, wantedBy, Flagged}
+use Rattle.cones.proofs.FindLaws.{same-test}
 
--- the heads from link l on decide whether p is wanted
-pub record Heads (ws : List ℕ) (m : Bool) (p l : ℕ) : Type 0 where
+-- on the way along the chain from link `first`, at link l: whether a cyclic head was found so far
+pub record Heads (ws : List ℕ) (first l : ℕ) (found : Bool) : Type 0 where
   pub ending : Ending ws l
   pub low : (a : ℕ) → Mem a (chain ws l) → a < theoryOf ws .atoms
-  pub left : picked (theoryOf ws) m (chain ws l) ≡ wantedBy (theoryOf ws) m p
+  pub left : found || any (cyclic (theoryOf ws)) (chain ws l) ≡ any (cyclic (theoryOf ws)) (chain ws first)
 
-pub heads-start : {ed : Edition} {ws : List ℕ} → Accepted ed ws → (m : Bool) {p : ℕ} → p < theoryOf ws .producers → {l : ℕ} → l ≡ getD ws (producerAt ws p + 1) 0 → Heads ws m p l
-unfolding theoryOf
-heads-start acc m {p} h e = rw e (record { ending = acc .head-chain p h; low = λ a i. acc .well-formed .head-low p a h i; left = refl })
+pub heads-start : {ws : List ℕ} {first : ℕ} → Ending ws first → ((a : ℕ) → Mem a (chain ws first) → a < theoryOf ws .atoms) → Heads ws first first false
+heads-start e low = record { ending = e; low = low; left = refl }
 
-module _ {ws : List ℕ} {m : Bool} {p l : ℕ} (h : Heads ws m p l) where
-  pub heads-none : l ≡ 0 → false ≡ wantedBy (theoryOf ws) m p
-  unfolding picked any filled
-  heads-none z = go m (sym (ap (picked (theoryOf ws) m) (ap (chain ws) z ∙ chain-end ws)) ∙ h .left)
-    where
-      go : (t : Bool) → picked (theoryOf ws) t [] ≡ wantedBy (theoryOf ws) m p → false ≡ wantedBy (theoryOf ws) m p
-      go true q = q
-      go false q = q
+or-none : (a : Bool) → a || false ≡ a
+or-none true = refl
+or-none false = refl
+
+or-assoc : (a b c : Bool) → (a || b) || c ≡ a || (b || c)
+or-assoc true b c = refl
+or-assoc false b c = refl
+
+module _ {ws : List ℕ} {first l : ℕ} {found : Bool} (h : Heads ws first l found) where
+  pub heads-end : l ≡ 0 → found ≡ any (cyclic (theoryOf ws)) (chain ws first)
+  unfolding any
+  heads-end z = sym (or-none found) ∙ ap (λ (x : List ℕ). found || any (cyclic (theoryOf ws)) x) (sym (ap (chain ws) z ∙ chain-end ws)) ∙ h .left
 
   module _ (z : l ≡ 0 → ⊥) where
     pub head-low : valueOf ws l < theoryOf ws .atoms
     head-low = h .low (valueOf ws l) (rw (chain-step ws (h .ending) z) (List·Memᴰ·head refl))
 
-    at : (t : Bool) → m ≡ t → picked (theoryOf ws) t (valueOf ws l ∷ chain ws (nextOf ws l)) ≡ wantedBy (theoryOf ws) m p
-    at t q = sym (ap (picked (theoryOf ws) m) (chain-step ws (h .ending) z) ∙ ap (λ (t : Bool). picked (theoryOf ws) t (valueOf ws l ∷ chain ws (nextOf ws l))) q) ∙ h .left
+    -- x: the next head; f: its flag
+    module _ (b : Bases) (w : List ℕ) (flagged : Flagged (theoryOf ws) b w) {x f : ℕ} (ex : x ≡ valueOf ws l) (ef : f ≡ getD w (b .«cyclic_atoms» + x) 0) where
+      test : eqb f 1 ≡ cyclic (theoryOf ws) (valueOf ws l)
+      test = same-test (eqb f 1) (cyclic (theoryOf ws) (valueOf ws l)) (λ o. flagged (valueOf ws l) head-low .0 (rw ex at (sym ef ∙ eq-is f 1 o))) (λ c. is-eq f 1 (ef ∙ rw ex (flagged (valueOf ws l) head-low .1 c)))
 
-    pub heads-any : not m ≡ true → true ≡ wantedBy (theoryOf ws) m p
+      pub heads-next : {y : ℕ} → y ≡ nextOf ws l → Heads ws first y (found || eqb f 1)
+      unfolding any
+      heads-next ey = rw ey (record {
+        ending = ending-next ws (h .ending) z;
+        low = λ a i. h .low a (rw (chain-step ws (h .ending) z) (List·Memᴰ·tail i));
+        left =
+            or-assoc found (eqb f 1) (any (cyclic (theoryOf ws)) (chain ws (nextOf ws l)))
+            ∙ ap (λ (t : Bool). found || (t || any (cyclic (theoryOf ws)) (chain ws (nextOf ws l)))) test
+            ∙ ap (λ (x : List ℕ). found || any (cyclic (theoryOf ws)) x) (sym (chain-step ws (h .ending) z))
+            ∙ h .left;
+      })
+
+-- the heads of producer p, whose chain begins at link `first`
+module _ (ws : List ℕ) (p : ℕ) {first : ℕ} (e : first ≡ getD ws (producerAt ws p + 1) 0) where
+  module _ {ed : Edition} (acc : Accepted ed ws) (h : p < theoryOf ws .producers) where
+    pub heads-of : Ending ws first × ((a : ℕ) → Mem a (chain ws first) → a < theoryOf ws .atoms)
+    unfolding theoryOf
+    heads-of = rw e (acc .head-chain p h, λ a i. acc .well-formed .head-low p a h i)
+
+    pub wanted-some : {m : Bool} → m ≡ false → ltb 0 first ≡ wantedBy (theoryOf ws) m p
     unfolding picked filled
-    heads-any q = at false (not-true m q)
+    wanted-some {m} q = go first e ∙ ap (λ (t : Bool). picked (theoryOf ws) t (theoryOf ws .heads p)) (sym q)
+      where
+        go : (l : ℕ) → l ≡ getD ws (producerAt ws p + 1) 0 → ltb 0 l ≡ picked (theoryOf ws) false (theoryOf ws .heads p)
+        go zero f = ap filled (sym (chain-end ws) ∙ ap (chain ws) f ∙ sym (the-heads ws p))
+        go (suc l) f = lt-ltb 0 (suc l) (omega arith) ∙ ap filled (sym (chain-step ws (rw f (rw e at (heads-of .0))) (λ z. omega arith)) ∙ ap (chain ws) f ∙ sym (the-heads ws p))
 
-    -- f: the flag of the first head, x
-    module _ (b : Bases) (w : List ℕ) (flagged : m ≡ true → Flagged (theoryOf ws) b w) (q : not m ≡ false) {x f : ℕ} (ex : x ≡ valueOf ws l) (ef : f ≡ getD w (b .«cyclic_atoms» + x) 0) where
-      pub heads-here : f ≡ 1 → true ≡ wantedBy (theoryOf ws) m p
-      unfolding picked any
-      heads-here o =
-          sym (or-left (cyclic (theoryOf ws) (valueOf ws l)) (any (cyclic (theoryOf ws)) (chain ws (nextOf ws l))) (flagged (not-false m q) (valueOf ws l) head-low .0 (rw ex at (sym ef ∙ o))))
-          ∙ at true (not-false m q)
-
-      pub heads-more : (f ≡ 1 → ⊥) → {y : ℕ} → y ≡ nextOf ws l → Heads ws m p y
-      unfolding picked any
-      heads-more n ey = rw ey (record { ending = ending-next ws (h .ending) z; low = λ a i. h .low a (rw (chain-step ws (h .ending) z) (List·Memᴰ·tail i)); left = rest })
-        where
-          no-cycle : cyclic (theoryOf ws) (valueOf ws l) ≡ false
-          no-cycle = is-false (cyclic (theoryOf ws) (valueOf ws l)) (λ c. n (ef ∙ rw ex (flagged (not-false m q) (valueOf ws l) head-low .1 c)))
-
-          rest : picked (theoryOf ws) m (chain ws (nextOf ws l)) ≡ wantedBy (theoryOf ws) m p
-          rest =
-              ap (λ (t : Bool). picked (theoryOf ws) t (chain ws (nextOf ws l))) (not-false m q)
-              ∙ sym (ap (λ (t : Bool). t || any (cyclic (theoryOf ws)) (chain ws (nextOf ws l))) no-cycle)
-              ∙ at true (not-false m q)
+  pub wanted-cyclic : {m : Bool} → m ≡ true → any (cyclic (theoryOf ws)) (chain ws first) ≡ wantedBy (theoryOf ws) m p
+  unfolding picked
+  wanted-cyclic q = ap (any (cyclic (theoryOf ws))) (ap (chain ws) e ∙ sym (the-heads ws p)) ∙ ap (λ (t : Bool). picked (theoryOf ws) t (theoryOf ws .heads p)) (sym q)

@@ -1,10 +1,10 @@
--- The search as the work area has it: a node included (`search-ready`, `search-skip`, `search-add`), the leaves of the next node of the list (`next-low`,
+-- The search as the work area has it: a node included (`search-ready`, `search-include`), the leaves of the next node of the list (`next-low`,
 -- `leaves-follow`, `leaves-done`), and the end (`search-end`).
 use mathlib.Core.Path.{_≡_, refl, sym, ap, _∙_}
 use mathlib.Core.Logic.{_⊎_, inl, inr, _≢_}
 use mathlib.Core.Bool.{Bool, true, false, cond}
 use mathlib.Core.List.{List, [], _∷_, _++_, append-nil, List·Memᴰ·not-nil}
-use Prim.Native.Nat.{ℕ, _+_, _*_, _≤_, _<_}
+use Prim.Native.Nat.{ℕ, zero, suc, _+_, _-_, _*_, _≤_, _<_}
 use native.Mathlib.Omega.{arith}
 use lib.ListN.{length, getD, set, take, drop, length-set, length-take, length-drop}
 use lib.Seq.{getD-set-same, getD-set-other, take-set-le, drop-set-lt}
@@ -21,37 +21,37 @@ use Rattle.area.specs.Layout.{Laid}
 use Rattle.area.proofs.ListLaws.{list-more, list-before, list-after, list-entry, list-step}
 use Rattle.cones.specs.Cones.{markOf, nodesOf, Found}
 use Rattle.cones.specs.Finding.{Finding, Stage, stage, Searching}
-use Rattle.cones.proofs.FindLaws.{find-low, find-skip, find-room, find-add, find-bound, find-leaves, find-end}
+use Rattle.cones.proofs.FindLaws.{find-low, find-mark, find-skip, find-room, find-add, find-bound, find-leaves, find-end}
 
 -- a node is marked, and listed behind count others
-module _ (b : Bases) (laid : Laid b) (w : List ℕ) (ends : b .end ≤ length w) (n count : ℕ) (low : n < b .nodes) (room : count < b .nodes) where
+abbrev included : Bases → List ℕ → (n count : ℕ) → List ℕ
+included b w n count = set (set w (b .states + 2 * n) 1) (b .«body_nodes» + count) n
+
+module _ (b : Bases) (laid : Laid b) (w : List ℕ) (ends : b .end ≤ length w) (n count : ℕ) (low : n < b .nodes) (room : count ≤ b .nodes) where
   abbrev marked : List ℕ
   marked = set w (b .states + 2 * n) 1
 
-  abbrev included : List ℕ
-  included = set marked (b .«body_nodes» + count) n
-
-  included-size : length included ≡ length w
+  included-size : length (included b w n count) ≡ length w
   included-size = length-set marked (b .«body_nodes» + count) n ∙ length-set w (b .states + 2 * n) 1
 
-  included-frame : take (b .states) included ≡ take (b .states) w
+  included-frame : take (b .states) (included b w n count) ≡ take (b .states) w
   included-frame = take-set-le (b .states) marked (b .«body_nodes» + count) n (omega arith) ∙ take-set-le (b .states) w (b .states + 2 * n) 1 (omega arith)
 
-  included-beyond : drop (b .«fact_rows») included ≡ drop (b .«fact_rows») w
+  included-beyond : drop (b .«fact_rows») (included b w n count) ≡ drop (b .«fact_rows») w
   included-beyond = drop-set-lt (b .«fact_rows») marked (b .«body_nodes» + count) n (omega arith) ∙ drop-set-lt (b .«fact_rows») w (b .states + 2 * n) 1 (omega arith)
 
-  included-more : nodesOf b included (count + 1) ≡ nodesOf b w count ++ (n ∷ [])
+  included-more : nodesOf b (included b w n count) (count + 1) ≡ nodesOf b w count ++ (n ∷ [])
   included-more =
       list-more (b .«body_nodes») count marked n (rw length-set (omega arith))
       ∙ ap (λ (l : List ℕ). l ++ (n ∷ [])) (list-before (b .«body_nodes») count w (b .states + 2 * n) 1 (omega arith))
 
-  included-same : (k : ℕ) → k ≤ count → nodesOf b included k ≡ nodesOf b w k
+  included-same : (k : ℕ) → k ≤ count → nodesOf b (included b w n count) k ≡ nodesOf b w k
   included-same k h = list-after (b .«body_nodes») k marked (b .«body_nodes» + count) n (omega arith) ∙ list-before (b .«body_nodes») k w (b .states + 2 * n) 1 (omega arith)
 
-  included-here : markOf b included n ≡ 1
+  included-here : markOf b (included b w n count) n ≡ 1
   included-here = getD-set-other marked (b .«body_nodes» + count) (b .states + 2 * n) n 0 (λ e. omega arith) ∙ getD-set-same w (b .states + 2 * n) 1 0 (omega arith)
 
-  included-other : (m : ℕ) → m < b .nodes → m ≢ n → markOf b included m ≡ markOf b w m
+  included-other : (m : ℕ) → m < b .nodes → m ≢ n → markOf b (included b w n count) m ≡ markOf b w m
   included-other m l d =
       getD-set-other marked (b .«body_nodes» + count) (b .states + 2 * m) n 0 (λ e. omega arith)
       ∙ getD-set-other w (b .states + 2 * n) (b .states + 2 * m) 1 0 (λ e. d (omega arith))
@@ -62,7 +62,8 @@ pub record Ready (lim : ℕ) (b : Bases) (w : List ℕ) (count n : ℕ) : Type 0
   pub ends : b .end ≤ length w
   pub low : n < b .nodes
   pub small : b .nodes ≤ lim
-  pub room : markOf b w n ≡ 0 → count < b .nodes
+  pub room : count ≤ b .nodes
+  pub mark : markOf b w n ≤ 1
 
 module _ {lim : ℕ} {b : Bases} {w : List ℕ} {count n : ℕ} where
   search-room : {c : Stage} {todo : List ℕ} → Searching lim b c w count (n ∷ todo) → markOf b w n ≡ 0 → count < b .nodes
@@ -81,46 +82,53 @@ module _ {lim : ℕ} {b : Bases} {w : List ℕ} {count n : ℕ} where
     ends = s .ends;
     low = let e = s .nodes in let h = find-low (s .finding) in omega arith;
     small = s .small;
-    room = search-room s;
+    room = s .room;
+    mark = let e = s .nodes in find-mark (s .finding);
   }
 
-  pub search-skip : 0 < markOf b w n → Drives (Searching lim b) (b .states) w count (n ∷ []) w count []
-  search-skip h = record {
-    frame = refl;
-    size = refl;
-    keeps = λ c more s. record {
-      laid = s .laid;
-      ends = s .ends;
-      nodes = s .nodes;
-      small = s .small;
-      behind = s .behind;
-      room = s .room;
-      finding = find-skip (s .finding) h;
-      beyond = s .beyond;
-    };
-  }
+  module _ (r : Ready lim b w count n) where
+    -- words, and a count, that hold the search with n found
+    driven : {k : ℕ} → ((c : Stage) (more : List ℕ) → Searching lim b c w count (n ∷ more) → (k ≤ b .nodes) × (count ≤ k)
+        × Finding (c .theory) (c .wanted) (c .below) (nodesOf b (included b w n count) k) (nodesOf b w (c .next)) more (markOf b (included b w n count)))
+        → Drives (Searching lim b) (b .states) w count (n ∷ []) (included b w n count) k []
+    driven next = record {
+      frame = included-frame b (r .laid) w (r .ends) n count (r .low) (r .room);
+      size = included-size b (r .laid) w (r .ends) n count (r .low) (r .room);
+      keeps = λ c more s. let f = next c more s in record {
+        laid = r .laid;
+        ends = rw (included-size b (r .laid) w (r .ends) n count (r .low) (r .room)) (r .ends);
+        nodes = s .nodes;
+        small = s .small;
+        behind = let h = s .behind in let k = f .1 in omega arith;
+        room = f .0;
+        finding = rw (included-same b (r .laid) w (r .ends) n count (r .low) (r .room) (c .next) (s .behind)) (f .2);
+        beyond = included-beyond b (r .laid) w (r .ends) n count (r .low) (r .room) ∙ s .beyond;
+      };
+    }
 
-  pub search-add : Ready lim b w count n → markOf b w n ≡ 0 → Drives (Searching lim b) (b .states) w count (n ∷ []) (set (set w (b .states + 2 * n) 1) (b .«body_nodes» + count) n) (count + 1) []
-  search-add r z =
-      let laid = r .laid in
-      let ends = r .ends in
-      let low = r .low in
-      let room = r .room z in
-      record {
-        frame = included-frame b laid w ends n count low room;
-        size = included-size b laid w ends n count low room;
-        keeps = λ c more s. record {
-          laid = laid;
-          ends = rw (included-size b laid w ends n count low room) ends;
-          nodes = s .nodes;
-          small = s .small;
-          behind = let h = s .behind in omega arith;
-          room = omega arith;
-          finding = rw (included-more b laid w ends n count low room, included-same b laid w ends n count low room (c .next) (s .behind))
-              (find-add (s .finding) z (included-here b laid w ends n count low room) (λ m l d. included-other b laid w ends n count low room m (let e = s .nodes in omega arith) d));
-          beyond = included-beyond b laid w ends n count low room ∙ s .beyond;
-        };
-      }
+    others : {c : Stage} {more : List ℕ} → Searching lim b c w count (n ∷ more) → (m : ℕ) → m < c .theory .nodes → m ≢ n → markOf b (included b w n count) m ≡ markOf b w m
+    others s m l d = included-other b (r .laid) w (r .ends) n count (r .low) (r .room) m (let e = s .nodes in omega arith) d
+
+    here : markOf b (included b w n count) n ≡ 1
+    here = included-here b (r .laid) w (r .ends) n count (r .low) (r .room)
+
+    search-skip : markOf b w n ≡ 1 → Drives (Searching lim b) (b .states) w count (n ∷ []) (included b w n count) count []
+    search-skip o = driven (λ c more s. (
+      s .room,
+      omega arith,
+      rw (included-same b (r .laid) w (r .ends) n count (r .low) (r .room) count (omega arith)) (find-skip (s .finding) o here (others s)),
+    ))
+
+    search-add : markOf b w n ≡ 0 → Drives (Searching lim b) (b .states) w count (n ∷ []) (included b w n count) (count + 1) []
+    search-add z = driven (λ c more s. (
+      let k = search-room s z in omega arith,
+      omega arith,
+      rw (included-more b (r .laid) w (r .ends) n count (r .low) (r .room)) (find-add (s .finding) z here (others s)),
+    ))
+
+    pub search-include : (x : ℕ) → x ≡ markOf b w n → Drives (Searching lim b) (b .states) w count (n ∷ []) (included b w n count) (count + 1 - x) []
+    search-include zero e = let k : count + 1 - 0 ≡ count + 1 = omega arith in rw k (search-add (sym e))
+    search-include (suc x) e = let m = r .mark in let z : x ≡ 0 = omega arith in let k : count + 1 - suc x ≡ count = omega arith in rw k (search-skip (rw z at (sym e)))
 
 -- the same nodes are found, and other ones may come next
 pub search-on : {lim : ℕ} {b : Bases} {c : Stage} {w : List ℕ} {count : ℕ} {todo : List ℕ} → Searching lim b c w count todo → {p next : ℕ} {rest w′ todo′ : List ℕ} → length w′ ≡ length w → next ≤ count

@@ -5,7 +5,9 @@ ghost use mathlib.Core.Bool.{true, _&&_};
 ghost use mathlib.Core.List.{[], _∷_};
 ghost use Prim.Native.Nat.{ℕ, _+_, _≤_, _<_};
 ghost use lib.ListN.{length};
+ghost use Rattle.theory.specs.Sets.{Mem, any};
 ghost use Rattle.theory.specs.Theory.{absorbed};
+ghost use Rattle.theory.specs.Founded.{cyclic};
 ghost use Rattle.theory.specs.Words.{chain, Ending, theoryOf};
 ghost use Rattle.theory.specs.Edges.{cone, bodyCone};
 ghost use Rattle.theory.specs.Accepted.{Accepted, edition1};
@@ -27,37 +29,46 @@ pub enum Coned {
     Absorbed(usize),
 }
 
+// Whether a chain of heads has a cyclic one. It is gone along to its end: which head is the first cyclic one cannot be foreseen.
+fn cyclic_head(graph: &[u16], work: &[u16], b: Bases, first: usize) -> bool
+    requires { ⌜ Accepted edition1 (now graph) × Based (now graph) (length (now work)) b × Flagged (theoryOf (now graph)) b (now work) ⌝ }
+    requires { ⌜ Ending (now graph) first × ((a : ℕ) → Mem a (chain (now graph) first) → a < theoryOf (now graph) .atoms) ⌝ }
+    ensures { λ r. ⌜ r ≡ any (cyclic (theoryOf (now (graph .entry)))) (chain (now (graph .entry)) first) ⌝ }
+{
+    let links = graph::link_records(graph);
+    let mut found = false;
+    let mut l = first;
+    while l > 0 {
+        let a = graph::value(links, l);
+        l = graph::next(links, l);
+        found = found | (graph::at(work, b.cyclic_atoms + a) == 1);
+    }
+    found
+}
+
 // Whether a cone starts from a producer: some head, or some cyclic head.
 fn wanted(graph: &[u16], work: &[u16], b: Bases, cyclic_only: bool, p: usize) -> bool
     requires { ⌜ Accepted edition1 (now graph) × Based (now graph) (length (now work)) b × (p < theoryOf (now graph) .producers) ⌝ }
     requires { ⌜ («cyclic_only» ≡ true → Flagged (theoryOf (now graph)) b (now work)) ⌝ }
     ensures { λ r. ⌜ r ≡ wantedBy (theoryOf (now (graph .entry))) «cyclic_only» p ⌝ }
 {
-    let mut l = graph::first_head(graph, p);
-    while l > 0 {
-        if !cyclic_only {
-            return true;
-        }
-        if graph::at(work, b.cyclic_atoms + graph::value(graph, l)) == 1 {
-            return true;
-        }
-        l = graph::next(graph, l);
+    let first = graph::first_head(graph, p);
+    if cyclic_only {
+        return cyclic_head(graph, work, b, first);
     }
-    false
+    first > 0
 }
 
-// A node, unless it is found already.
+// A node is marked, and listed unless it was found already. It is stored behind the list all the same: whether it is new cannot be foreseen either.
 fn include(work: &mut [u16], b: Bases, n: usize, count: usize) -> usize
     requires { ⌜ Follows (Searching 65536 b) (now work) count (n ∷ []) ⌝ }
     ensures { λ r. ⌜ Drives (Searching 65536 b) (b .states) (now (work .entry)) count (n ∷ []) (now (work .exit)) r [] ⌝ }
 {
     let mark = b.states + 2 * n;
-    if graph::at(work, mark) > 0 {
-        return count;
-    }
+    let found = graph::at(work, mark);
     area::put(work, mark, 1);
     area::put(work, b.body_nodes + count, n);
-    count + 1
+    count + 1 - found
 }
 
 // The leaves along a chain.
@@ -66,11 +77,12 @@ fn include_chain(graph: &[u16], work: &mut [u16], b: Bases, first: usize, count:
     requires { ⌜ Follows (Searching 65536 b) (now work) count (chain (now graph) first) ⌝ }
     ensures { λ r. ⌜ Drives (Searching 65536 b) (b .states) (now (work .entry)) count (chain (now (graph .entry)) first) (now (work .exit)) r [] ⌝ }
 {
+    let links = graph::link_records(graph);
     let mut t = count;
     let mut l = first;
     while l > 0 {
-        let v = graph::value(graph, l);
-        l = graph::next(graph, l);
+        let v = graph::value(links, l);
+        l = graph::next(links, l);
         t = include(work, b, v, t);
     }
     t

@@ -1,5 +1,4 @@
-// Checked counts in lent words. Where the Rust panics, the callers show that a count stays below a word's limit, and that one that is
-// decremented is above 0.
+// Checked counts in lent words. Where the Rust panics, the callers show that a count stays below a word's limit.
 ghost use mathlib.Core.Path.{_≡_};
 ghost use Prim.Native.Nat.{_+_, _<_};
 ghost use lib.ListN.{length, getD, set};
@@ -18,15 +17,5 @@ pub fn add(counts: &mut [u16], i: usize, amount: usize) -> usize
 {
     let n = get(counts, i);
     area::put(counts, i, n + amount);
-    n
-}
-
-// The count that is left.
-pub fn decrement(counts: &mut [u16], i: usize) -> usize
-    requires { ⌜ (i < length (now counts)) × (0 < getD (now counts) i 0) ⌝ }
-    ensures { λ r. ⌜ (r + 1 ≡ getD (now (counts .entry)) i 0) × (now (counts .exit) ≡ set (now (counts .entry)) i r) ⌝ }
-{
-    let n = graph::at(counts, i) - 1;
-    area::put(counts, i, n);
     n
 }

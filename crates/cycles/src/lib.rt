@@ -49,10 +49,11 @@ fn count_heads(graph: &[u16], work: &mut [u16], b: Bases, p: usize)
     if graph::body(graph, p) == 0 {
         return;
     }
+    let links = graph::link_records(graph);
     let mut l = graph::first_head(graph, p);
     while l > 0 {
-        let v = graph::value(graph, l);
-        l = graph::next(graph, l);
+        let v = graph::value(links, l);
+        l = graph::next(links, l);
         counters::add(work, b.dependencies + v, 1);
     }
 }

@@ -78,6 +78,9 @@ module _ {ws : List ℕ} {ed : Edition} (acc : Accepted ed ws) {b : Bases} {word
       pub run-follows : Follows (Held 65536 b) w tail (succs (theoryOf ws) v)
       run-follows = follows-all (Held 65536 b) begun
 
+      pub run-grows : {w′ : List ℕ} {t′ : ℕ} → Drives (Held 65536 b) (b .states) w tail (succs (theoryOf ws) v) w′ t′ [] → tail ≤ t′
+      run-grows d = drives-all (Held 65536 b) begun d .fore
+
       pub run-next : {w′ : List ℕ} {t′ : ℕ} → Drives (Held 65536 b) (b .states) w tail (succs (theoryOf ws) v) w′ t′ [] → Running ws b mode w′ (head + 1) t′
       unfolding upto
       run-next {w′} {t′} d = record {

@@ -14,8 +14,8 @@ use Rattle.theory.specs.Drive.{Follows, Drives}
 use Rattle.theory.proofs.DriveLaws.{drives-none, drives-step, follows-next}
 use Rattle.area.specs.declared.Bases.{Bases}
 use Rattle.area.specs.Layout.{Based}
-use Rattle.area.proofs.PartLaws.{frame-at, frame-slice}
 use Rattle.adjacency.specs.Tables.{startAt, rowAt, Tabled}
+use Rattle.adjacency.proofs.TableLaws.{kept}
 use Rattle.events.specs.Held.{shifted, Spanned, Named, Tables}
 
 mem-getD : (l : List ℕ) (i : ℕ) → i < length l → Mem (getD l i 0) l
@@ -29,24 +29,12 @@ slice-mem f t w i a c e =
     rw (getD-drop f (take t w) (i - f) 0 ∙ ap (λ (j : ℕ). getD (take t w) j 0) k ∙ getD-take t w i 0 c)
     at (mem-getD (slice f t w) (i - f) (omega (arith, length-slice f t w e)))
 
--- a table is the same in words that agree on the first n
-module _ (n : ℕ) (w w′ : List ℕ) (frame : take n w′ ≡ take n w) (size : length w′ ≡ length w) where
-  start-same : {base rows : ℕ} {edges : List Edge} → Tabled n w base rows edges → (r : ℕ) → r ≤ rows → startAt w′ base rows r ≡ startAt w base rows r
-  start-same {base} {rows} t r l = let k = t .inside rows (omega arith) in ap (λ (z : ℕ). base + (rows + 1) + z) (frame-at n w w′ frame (base + r) (omega arith))
-
-  pub table-same : {base rows : ℕ} {edges : List Edge} → Tabled n w base rows edges → Tabled n w′ base rows edges
-  table-same {base} {rows} {edges} t = record {
-    long = rw size (t .long);
-    rising = λ r l. let a = t .rising r l in omega (arith, start-same t r (omega arith), start-same t (r + 1) (omega arith));
-    inside = λ r l. let a = t .inside r l in omega (arith, start-same t r l);
-    row = λ r l. ap₂ (λ (i j : ℕ). slice i j w′) (start-same t r (omega arith)) (start-same t (r + 1) (omega arith)) ∙ frame-slice n w w′ frame (startAt w base rows r) (startAt w base rows (r + 1)) (t .inside (r + 1) (omega arith)) ∙ t .row r l;
-  }
-
+-- the tables are the same in words that agree on them
 pub tables-same : {th : Theory} {b : Bases} {w w′ : List ℕ} → take (b .states) w′ ≡ take (b .states) w → length w′ ≡ length w → Tables th b w → Tables th b w′
 tables-same {th} {b} {w} {w′} frame size t = record {
-  atom-nodes = table-same (b .states) w w′ frame size (t .atom-nodes);
-  parents = table-same (b .states) w w′ frame size (t .parents);
-  by-body = table-same (b .states) w w′ frame size (t .by-body);
+  atom-nodes = kept (t .atom-nodes) w′ frame size;
+  parents = kept (t .parents) w′ frame size;
+  by-body = kept (t .by-body) w′ frame size;
 }
 
 pub spanned : {n : ℕ} {w : List ℕ} {base rows : ℕ} {edges : List Edge} → Tabled n w base rows edges → (r : ℕ) → r < rows → Spanned n w base rows r

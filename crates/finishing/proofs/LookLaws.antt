@@ -17,8 +17,8 @@ use Rattle.theory.proofs.SetLaws.{clash}
 use Rattle.theory.proofs.CountLaws.{sum-one}
 use Rattle.theory.proofs.ChainLaws.{ending-link, ending-next}
 use Rattle.theory.proofs.RowLaws.{row-item, rows-length, by-head-few}
-use Rattle.graph.specs.Layout.{ProducerIn, LinkIn}
-use Rattle.graph.proofs.DecodeLaws.{the-nodes, the-producers, the-operand, the-body, link-in}
+use Rattle.graph.specs.Layout.{ProducerIn}
+use Rattle.graph.proofs.DecodeLaws.{the-nodes, the-producers, the-operand, the-body}
 use Rattle.area.specs.declared.Bases.{Bases}
 use Rattle.adjacency.specs.Tables.{startAt, edgesOf}
 use Rattle.adjacency.specs.declared.Table.the-variants.{ByHead}
@@ -152,9 +152,6 @@ module _ {ed : Edition} {ws : List ℕ} (acc : Accepted ed ws) {b : Bases} {w : 
       module _ (q : hasOperand ws (v - b .atoms) ≡ false) where
         pub link-ends : Ending ws c
         link-ends = subst (Ending ws) (sym ec) (k .linked node-high (sym (ap (hasOperand ws) node-is) ∙ q))
-
-        pub link-place : LinkIn ws c
-        link-place = link-in acc link-ends some
 
         pub next-few : nextOf ws c ≤ ed .links
         next-few = let a = ending-link ws (ending-next ws link-ends some) in let l = acc .links-few in omega arith

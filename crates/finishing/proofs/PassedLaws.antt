@@ -13,7 +13,7 @@ use Rattle.theory.specs.Words.{producerAt, valueOf, nextOf, Ending, theoryOf}
 use Rattle.theory.specs.Edges.{vertices}
 use Rattle.theory.specs.Accepted.{Edition, Accepted}
 use Rattle.theory.proofs.SetLaws.{clash, is-eq}
-use Rattle.graph.specs.Layout.{ProducerIn, LinkIn}
+use Rattle.graph.specs.Layout.{ProducerIn}
 use Rattle.area.specs.declared.Bases.{Bases}
 use Rattle.area.specs.Marks.{markIn}
 use Rattle.adjacency.specs.Tables.{startAt}
@@ -150,9 +150,6 @@ module _ {ed : Edition} {ws : List ℕ} (acc : Accepted ed ws) {b : Bases} {w : 
     leaves-done z = subst (λ (i : ℕ). Found ws b w (set w (b .dependencies + v) i) v Done) z (found-end (look.node-done acc (next-looking o p) high (cursor-is o p) z))
 
     module _ (q : hasOperand ws (v - b .atoms) ≡ false) (some : c ≢ 0) where
-      pub leaf-link : LinkIn ws c
-      leaf-link = look.link-place acc (next-looking o p) high (cursor-is o p) some q
-
       pub leaf-ends : Ending ws c
       leaf-ends = look.link-ends acc (next-looking o p) high (cursor-is o p) some q
 

@@ -7,10 +7,10 @@ ghost use mathlib.Core.Bool.{false};
 ghost use Prim.Native.Nat.{_+_, _<_, _≤_};
 ghost use lib.ListN.{length, getD};
 ghost use Rattle.theory.specs.Theory.{joins};
-ghost use Rattle.theory.specs.Words.{kindOf, nodeAt, producerAt, linkAt, valueOf, nextOf, chain, Ending};
-ghost use Rattle.theory.specs.Accepted.{Accepted, edition1};
+ghost use Rattle.theory.specs.Words.{kindOf, nodeAt, producerAt, chain, Ending};
+ghost use Rattle.theory.specs.Accepted.{Accepted, edition1, sizeOf};
 ghost use Rattle.graph.specs.Kinds.{rowOf, takesOperand, waitsForOne, waitsForAll, startsTrue};
-ghost use Rattle.graph.specs.Layout.{NodeIn, ProducerIn, LinkIn};
+ghost use Rattle.graph.specs.Layout.{NodeIn, ProducerIn, RecordsOf, LinkIn, valueIn, nextIn};
 ghost use Rattle.graph.specs.Refusals.{graphAnswer, answerOf};
 
 // A row a kind: takes an operand, takes links, waits for one, waits for all, starts true.
@@ -148,29 +148,31 @@ pub fn first_head(graph: &[u16], p: usize) -> usize
     at(graph, producer_at(graph, p) + 1)
 }
 
+// The link records.
+pub fn link_records(graph: &[u16]) -> &[u16]
+    requires { ⌜ length (now graph) ≡ sizeOf (now graph) ⌝ }
+    ensures { λ r. ⌜ RecordsOf (now (graph .entry)) (now r) ⌝ }
+{
+    let from = 5 + 3 * at(graph, 2) + 2 * at(graph, 3);
+    &graph[from..]
+}
+
 // A link's record, by its number from 1: its value and the next link.
-fn link_at(graph: &[u16], l: usize) -> usize
-    requires { ⌜ LinkIn (now graph) l ⌝ }
-    ensures { λ r. ⌜ r ≡ linkAt (now (graph .entry)) l ⌝ }
+fn value_at(links: &[u16], l: usize) -> usize
+    requires { ⌜ LinkIn (now links) l ⌝ }
+    ensures { λ r. ⌜ r ≡ valueIn (now (links .entry)) l ⌝ }
 {
-    5 + 3 * at(graph, 2) + 2 * at(graph, 3) + 2 * l - 2
+    at(links, 2 * l - 2)
 }
 
-fn value_at(graph: &[u16], l: usize) -> usize
-    requires { ⌜ LinkIn (now graph) l ⌝ }
-    ensures { λ r. ⌜ r ≡ valueOf (now (graph .entry)) l ⌝ }
+fn next_at(links: &[u16], l: usize) -> usize
+    requires { ⌜ LinkIn (now links) l ⌝ }
+    ensures { λ r. ⌜ r ≡ nextIn (now (links .entry)) l ⌝ }
 {
-    at(graph, link_at(graph, l))
+    at(links, 2 * l - 1)
 }
 
-fn next_at(graph: &[u16], l: usize) -> usize
-    requires { ⌜ LinkIn (now graph) l ⌝ }
-    ensures { λ r. ⌜ r ≡ nextOf (now (graph .entry)) l ⌝ }
-{
-    at(graph, link_at(graph, l) + 1)
-}
-
-// The reader of a chain: the graph's words and a link number. Each function over it takes it apart and calls a plain one.
+// The reader of a chain: the words of the graph that hold its links, and a link number. Each function over it takes it apart and calls a plain one.
 pub struct Chain<'a> {
     pub words: &'a [u16],
     pub link: usize,
@@ -190,14 +192,14 @@ pub fn chain_link<'a>(c: Chain<'a>) -> usize
 
 pub fn chain_value<'a>(c: Chain<'a>) -> usize
     requires { ⌜ LinkIn (now (c .words)) (c .link) ⌝ }
-    ensures { λ r. ⌜ r ≡ valueOf (now (c .entry .words)) (c .entry .link) ⌝ }
+    ensures { λ r. ⌜ r ≡ valueIn (now (c .entry .words)) (c .entry .link) ⌝ }
 {
     value_at(c.words, c.link)
 }
 
 pub fn chain_next<'a>(c: Chain<'a>) -> Chain<'a>
     requires { ⌜ LinkIn (now (c .words)) (c .link) ⌝ }
-    ensures { λ r. ⌜ (r .words ≡ c .entry .words) × (r .link ≡ nextOf (now (c .entry .words)) (c .entry .link)) ⌝ }
+    ensures { λ r. ⌜ (r .words ≡ c .entry .words) × (r .link ≡ nextIn (now (c .entry .words)) (c .entry .link)) ⌝ }
 {
     let next = next_at(c.words, c.link);
     Chain {
@@ -206,19 +208,19 @@ pub fn chain_next<'a>(c: Chain<'a>) -> Chain<'a>
     }
 }
 
-// What every loop over a chain calls.
-pub fn value(graph: &[u16], l: usize) -> usize
-    requires { ⌜ LinkIn (now graph) l ⌝ }
-    ensures { λ r. ⌜ r ≡ valueOf (now (graph .entry)) l ⌝ }
+// What every loop over a chain calls, on the link records.
+pub fn value(links: &[u16], l: usize) -> usize
+    requires { ⌜ LinkIn (now links) l ⌝ }
+    ensures { λ r. ⌜ r ≡ valueIn (now (links .entry)) l ⌝ }
 {
-    chain_value(chain_of(graph, l))
+    chain_value(chain_of(links, l))
 }
 
-pub fn next(graph: &[u16], l: usize) -> usize
-    requires { ⌜ LinkIn (now graph) l ⌝ }
-    ensures { λ r. ⌜ r ≡ nextOf (now (graph .entry)) l ⌝ }
+pub fn next(links: &[u16], l: usize) -> usize
+    requires { ⌜ LinkIn (now links) l ⌝ }
+    ensures { λ r. ⌜ r ≡ nextIn (now (links .entry)) l ⌝ }
 {
-    chain_link(chain_next(chain_of(graph, l)))
+    chain_link(chain_next(chain_of(links, l)))
 }
 
 // How many entries a chain has, repeats counted.
@@ -226,11 +228,12 @@ pub fn entries(graph: &[u16], first: usize) -> usize
     requires { ⌜ Accepted edition1 (now graph) × Ending (now graph) first ⌝ }
     ensures { λ r. ⌜ r ≡ length (chain (now (graph .entry)) first) ⌝ }
 {
+    let links = link_records(graph);
     let mut n: usize = 0;
     let mut l = first;
     while l > 0 {
         n += 1;
-        l = next(graph, l);
+        l = next(links, l);
     }
     n
 }

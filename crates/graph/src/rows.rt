@@ -16,6 +16,7 @@ use crate::body;
 use crate::first_head;
 use crate::first_leaf;
 use crate::kind;
+use crate::link_records;
 use crate::links;
 use crate::next;
 use crate::nodes;
@@ -173,10 +174,11 @@ fn bad_link(graph: &[u16]) -> usize
     requires { ⌜ Sized edition1 (now graph) ⌝ }
     ensures { λ r. ⌜ First (badLink (now (graph .entry))) 1 (getD (now (graph .entry)) 4 0 + 1) r ⌝ }
 {
-    let links = links(graph);
+    let end = links(graph);
+    let records = link_records(graph);
     let mut l = 1;
-    while l <= links {
-        if bad_next(next(graph, l), l, links) {
+    while l <= end {
+        if bad_next(next(records, l), l, end) {
             return l;
         }
         l += 1;
@@ -191,6 +193,7 @@ fn walk_leaves(graph: &[u16]) -> Walk
     ensures { λ r. ⌜ Walked (badLeaves (now (graph .entry))) (getD (now (graph .entry)) 2 0) (leafEntries (theoryOf (now (graph .entry)))) r ⌝ }
 {
     let end = nodes(graph);
+    let links = link_records(graph);
     let mut entries: usize = 0;
     let mut n = 0;
     'nodes: loop {
@@ -199,11 +202,11 @@ fn walk_leaves(graph: &[u16]) -> Walk
         }
         let mut l = first_leaf(graph, n);
         while l != 0 {
-            if n <= value(graph, l) {
+            if n <= value(links, l) {
                 break 'nodes Walk::Bad(n);
             }
             entries += 1;
-            l = next(graph, l);
+            l = next(links, l);
         }
         n += 1;
     }
@@ -217,6 +220,7 @@ fn walk_heads(graph: &[u16]) -> Walk
 {
     let end = producers(graph);
     let atoms = atoms(graph);
+    let links = link_records(graph);
     let mut entries: usize = 0;
     let mut p = 0;
     'producers: loop {
@@ -225,11 +229,11 @@ fn walk_heads(graph: &[u16]) -> Walk
         }
         let mut l = first_head(graph, p);
         while l != 0 {
-            if atoms <= value(graph, l) {
+            if atoms <= value(links, l) {
                 break 'producers Walk::Bad(p);
             }
             entries += 1;
-            l = next(graph, l);
+            l = next(links, l);
         }
         p += 1;
     }

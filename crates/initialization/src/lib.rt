@@ -82,11 +82,12 @@ fn activate_heads(graph: &[u16], work: &mut [u16], b: Bases, p: usize, tail: usi
     requires { ⌜ Follows (At b) (now work) tail (theoryOf (now graph) .heads p) ⌝ }
     ensures { λ r. ⌜ Drives (At b) (b .dependencies) (now (work .entry)) tail (theoryOf (now (graph .entry)) .heads p) (now (work .exit)) r [] ⌝ }
 {
+    let links = graph::link_records(graph);
     let mut t = tail;
     let mut l = graph::first_head(graph, p);
     while l > 0 {
-        let v = graph::value(graph, l);
-        l = graph::next(graph, l);
+        let v = graph::value(links, l);
+        l = graph::next(links, l);
         t = activate_atom(work, b, v, t);
     }
     t

@@ -1,22 +1,17 @@
 -- Four tables, one after the other: each stands where it was built once the later ones are there.
 use mathlib.Core.Path.{_∙_}
 use mathlib.Core.List.{List}
-use Prim.Native.Nat.{ℕ, _≤_}
+use Prim.Native.Nat.{ℕ}
 use native.Mathlib.Omega.{arith}
 use lib.ListN.{length}
 use Rattle.theory.specs.Words.{theoryOf}
-use Rattle.theory.specs.Rows.{Edge}
 use Rattle.area.specs.declared.Bases.{Bases}
 use Rattle.area.specs.Layout.{Based}
 use Rattle.area.proofs.PartLaws.{frame-less}
-use Rattle.adjacency.specs.Tables.{Tabled, Built}
+use Rattle.adjacency.specs.Tables.{Built}
 use Rattle.adjacency.specs.declared.Table.the-variants.{AtomNodes, Parents, ByHead, ByBody}
-use Rattle.events.proofs.VertexLaws.{table-same}
+use Rattle.adjacency.proofs.TableLaws.{kept, wider}
 use Rattle.preparation.specs.Stages.{Rowed}
-
--- a table within more words
-table-wide : {n m : ℕ} {w : List ℕ} {base rows : ℕ} {edges : List Edge} → n ≤ m → m ≤ length w → Tabled n w base rows edges → Tabled m w base rows edges
-table-wide h k t = record { long = k; rising = t .rising; inside = λ r l. let i = t .inside r l in omega arith; row = t .row }
 
 pub rowed : {ws : List ℕ} {b : Bases} {w₀ w₁ w₂ w₃ w₄ : List ℕ} → Based ws (length w₀) b
     → Built (theoryOf ws) b AtomNodes w₀ w₁ → Built (theoryOf ws) b Parents w₁ w₂ → Built (theoryOf ws) b ByHead w₂ w₃ → Built (theoryOf ws) b ByBody w₃ w₄ → Rowed ws b w₀ w₄
@@ -30,9 +25,9 @@ rowed {ws} {b} {w₀} {w₁} {w₂} {w₃} {w₄} based a p h y =
     record {
       size = s₄ ∙ s₃ ∙ s₂ ∙ s₁;
       tables = record {
-        atom-nodes = table-wide (omega arith) (omega arith) (table-same (b .parents) w₁ w₄ f₂ (s₄ ∙ s₃ ∙ s₂) (a .table));
-        parents = table-wide (omega arith) (omega arith) (table-same (b .«by_head») w₂ w₄ f₃ (s₄ ∙ s₃) (p .table));
+        atom-nodes = wider (kept (a .table) w₄ f₂ (s₄ ∙ s₃ ∙ s₂)) (b .states) (omega arith) (omega arith);
+        parents = wider (kept (p .table) w₄ f₃ (s₄ ∙ s₃)) (b .states) (omega arith) (omega arith);
         by-body = y .table;
       };
-      by-head = table-same (b .«by_body») w₃ w₄ f₄ s₄ (h .table);
+      by-head = kept (h .table) w₄ f₄ s₄;
     }

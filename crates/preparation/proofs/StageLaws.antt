@@ -13,7 +13,8 @@ use Rattle.theory.proofs.SetLaws.{clash, and-intro, and-left, and-right}
 use Rattle.area.specs.declared.Bases.{Bases}
 use Rattle.area.specs.Layout.{Based}
 use Rattle.area.proofs.PartLaws.{frame-less}
-use Rattle.events.proofs.VertexLaws.{tables-same, table-same}
+use Rattle.adjacency.proofs.TableLaws.{kept}
+use Rattle.events.proofs.VertexLaws.{tables-same}
 use Rattle.cones.specs.Cones as cones
 use Rattle.cones.specs.declared.Coned as coned
 use Rattle.cones.proofs.FactLaws.{members-mem}
@@ -51,7 +52,7 @@ module _ (ws : List ℕ) (b : Bases) (w₀ : List ℕ) where
   onward {w₁} {w₂} based r k f = let l = based .laid in record {
     based = rw (k .size, r .size) based;
     tables = tables-same (k .tables) (k .size) (r .tables);
-    by-head = table-same (b .«by_body») w₁ w₂ (frame-less (b .states) w₁ w₂ (k .tables) (b .«by_body») (omega arith)) (k .size) (r .by-head);
+    by-head = kept (r .by-head) w₂ (frame-less (b .states) w₁ w₂ (k .tables) (b .«by_body») (omega arith)) (k .size);
     marks = f .marks;
   }
 

@@ -19,7 +19,8 @@ use Rattle.area.specs.declared.Bases.{Bases}
 use Rattle.area.specs.Layout.{Laid}
 use Rattle.area.proofs.PartLaws.{part-length, part-before, part-at, frame-at, frame-less}
 use Rattle.events.specs.Held.{Tables}
-use Rattle.events.proofs.VertexLaws.{tables-same, table-same}
+use Rattle.adjacency.proofs.TableLaws.{kept}
+use Rattle.events.proofs.VertexLaws.{tables-same}
 use Rattle.area.specs.Marks.{markIn}
 use Rattle.finishing.specs.Finished as walk
 use Rattle.area.proofs.MarkLaws.{mark-atom, mark-node}
@@ -60,7 +61,7 @@ module _ {ws : List ℕ} {ed : Edition} (acc : Accepted ed ws) {b : Bases} {w : 
   pub ready₁ : walk.Ready ws b w₁
   ready₁ = let l = laid in record {
     based = rw size₁ (o .based);
-    table = table-same (b .«by_body») w w₁ (frame-less (b .«founded_atoms») w w₁ frame₁ (b .«by_body») (omega arith)) size₁ (o .by-head);
+    table = kept (o .by-head) w₁ (frame-less (b .«founded_atoms») w w₁ frame₁ (b .«by_body») (omega arith)) size₁;
   }
 
   counts : (b .atoms ≡ theoryOf ws .atoms) × (b .nodes ≡ theoryOf ws .nodes)

@@ -61,14 +61,17 @@ add-fact-rows c = search needs
 add-fact-rows-2 : tie.Need-add-fact-rows-2
 add-fact-rows-2 c = search needs
 
+add-fact-rows-3 : tie.Need-add-fact-rows-3
+add-fact-rows-3 c = search needs
+
 add-founded-atoms : tie.Need-add-founded-atoms
 add-founded-atoms c = search needs
 
 add-cyclic-atoms : tie.Need-add-cyclic-atoms
 add-cyclic-atoms c = search needs
 
-add-t16 : tie.Need-add-t16
-add-t16 c = search needs
+add-t17 : tie.Need-add-t17
+add-t17 c = search needs
 
 returns : tie.Need-returns
 returns c = record {
@@ -104,7 +107,8 @@ lay-out-spec =
     add-body-nodes-2
     add-fact-rows
     add-fact-rows-2
+    add-fact-rows-3
     add-founded-atoms
     add-cyclic-atoms
-    add-t16
+    add-t17
     returns)

@@ -2,7 +2,7 @@ use mathlib.Core.Path.{_≡_, refl, _∙_}
 use Prim.Native.Nat.{_+_, _-_, _≤_}
 use native.Mathlib.Omega.{arith}
 use Rattle.events.specs.Run.{Ran}
-use Rattle.events.proofs.RunLaws.{tail-low, head-low, run-follows, run-next}
+use Rattle.events.proofs.RunLaws.{tail-low, head-low, run-follows, run-grows, run-next}
 use Rattle.events.proofs.VertexLaws.{tables-same}
 use Rattle.events.proofs.settle_all.Statement.{statement}
 use Rattle.events.proofs.settle_all.Tie as tie
@@ -12,13 +12,13 @@ use Rattle.events.proofs.visit_vertex.Reads as visit-vertex-reads
 use Rattle.graph.proofs.at.Reads as at-reads
 
 abbrev Inv-loop : tie.InvT-loop
-Inv-loop graph work₀ b first head₀ tail₀ work head tail = (head ≤ tail) × Ran graph b work₀ work 0 first head tail
+Inv-loop graph work₀ b first head₀ tail₀ work head tail = (head ≤ tail) × (first ≤ tail) × Ran graph b work₀ work 0 first head tail
 
 abbrev μ-loop : tie.MeasureT-loop
 μ-loop graph work₀ b first head₀ tail₀ work head tail = b .atoms + b .nodes - head
 
 loop-holds : tie.Need-loop-holds Inv-loop μ-loop
-loop-holds c = (omega arith, record { size = refl; tables = refl; runs = λ m r. r })
+loop-holds c = (omega arith, omega arith, record { size = refl; tables = refl; runs = λ m r. r })
 
 add-at : tie.Need-add-at Inv-loop μ-loop
 add-at c =
@@ -26,7 +26,7 @@ add-at c =
     let c-loop = c .before .before .before .loop in
     let p1 = c .before .before .before .before .before .before in
     let c-pre = p1 .pre in
-    let r = c-loop .inv .1 .runs (c-pre .1 .0) (c-pre .1 .1) in let t = tail-low (c-pre .0 .0) (c-pre .0 .1) (c-loop .head) (c-loop .tail) r in let l = c-pre .0 .1 .laid in let q = c-pre .0 .1 .ends in let z = c-loop-test .taken in omega arith
+    let r = c-loop .inv .2 .runs (c-pre .1 .0) (c-pre .1 .1) in let t = tail-low (c-pre .0 .0) (c-pre .0 .1) (c-loop .head) (c-loop .tail) r in let l = c-pre .0 .1 .laid in let q = c-pre .0 .1 .ends in let z = c-loop-test .taken in omega arith
 
 at-requires : tie.Need-at-requires Inv-loop μ-loop
 at-requires c κs =
@@ -34,7 +34,7 @@ at-requires c κs =
     let c-loop = c .before .before .before .loop in
     let p1 = c .before .before .before .before .before .before in
     let c-pre = p1 .pre in
-    let r = c-loop .inv .1 .runs (c-pre .1 .0) (c-pre .1 .1) in let t = tail-low (c-pre .0 .0) (c-pre .0 .1) (c-loop .head) (c-loop .tail) r in let l = c-pre .0 .1 .laid in let q = r .held .long in let z = c-loop-test .taken in omega arith
+    let r = c-loop .inv .2 .runs (c-pre .1 .0) (c-pre .1 .1) in let t = tail-low (c-pre .0 .0) (c-pre .0 .1) (c-loop .head) (c-loop .tail) r in let l = c-pre .0 .1 .laid in let q = r .held .long in let z = c-loop-test .taken in omega arith
 
 visit-vertex-requires : tie.Need-visit-vertex-requires Inv-loop μ-loop
 visit-vertex-requires c κs =
@@ -44,7 +44,7 @@ visit-vertex-requires c κs =
     let c-loop = p1 .before .loop in
     let p2 = p1 .before .before .before .before in
     let c-pre = p2 .pre in
-    let f = c-loop .inv .1 in let r = f .runs (c-pre .1 .0) (c-pre .1 .1) in ((c-pre .0 .0, rw (f .size) (c-pre .0 .1), head-low (c-pre .0 .0) (c-pre .0 .1) (c-loop .head) (c-loop .tail) r (c-loop-test .taken) (c-at .ensures .0), tables-same (f .tables) (f .size) (c-pre .0 .2)), run-follows (c-pre .0 .0) (c-pre .0 .1) (c-loop .head) (c-loop .tail) r (c-loop-test .taken) (c-at .ensures .0))
+    let f = c-loop .inv .2 in let r = f .runs (c-pre .1 .0) (c-pre .1 .1) in ((c-pre .0 .0, rw (f .size) (c-pre .0 .1), head-low (c-pre .0 .0) (c-pre .0 .1) (c-loop .head) (c-loop .tail) r (c-loop-test .taken) (c-at .ensures .0), tables-same (f .tables) (f .size) (c-pre .0 .2)), run-follows (c-pre .0 .0) (c-pre .0 .1) (c-loop .head) (c-loop .tail) r (c-loop-test .taken) (c-at .ensures .0))
 
 add-head : tie.Need-add-head Inv-loop μ-loop
 add-head c =
@@ -53,7 +53,7 @@ add-head c =
     let c-loop = p1 .before .loop in
     let p2 = p1 .before .before .before .before in
     let c-pre = p2 .pre in
-    let r = c-loop .inv .1 .runs (c-pre .1 .0) (c-pre .1 .1) in let t = tail-low (c-pre .0 .0) (c-pre .0 .1) (c-loop .head) (c-loop .tail) r in let l = c-pre .0 .1 .laid in let q = c-pre .0 .1 .ends in let z = c-loop-test .taken in omega arith
+    let r = c-loop .inv .2 .runs (c-pre .1 .0) (c-pre .1 .1) in let t = tail-low (c-pre .0 .0) (c-pre .0 .1) (c-loop .head) (c-loop .tail) r in let l = c-pre .0 .1 .laid in let q = c-pre .0 .1 .ends in let z = c-loop-test .taken in omega arith
 
 loop-less : tie.Need-loop-less Inv-loop μ-loop
 loop-less c =
@@ -62,7 +62,7 @@ loop-less c =
     let c-loop = p1 .before .loop in
     let p2 = p1 .before .before .before .before in
     let c-pre = p2 .pre in
-    let r = c-loop .inv .1 .runs (c-pre .1 .0) (c-pre .1 .1) in let t = tail-low (c-pre .0 .0) (c-pre .0 .1) (c-loop .head) (c-loop .tail) r in let z = c-loop-test .taken in omega arith
+    let r = c-loop .inv .2 .runs (c-pre .1 .0) (c-pre .1 .1) in let t = tail-low (c-pre .0 .0) (c-pre .0 .1) (c-loop .head) (c-loop .tail) r in let z = c-loop-test .taken in omega arith
 
 loop-again : tie.Need-loop-again Inv-loop μ-loop
 loop-again c =
@@ -73,18 +73,18 @@ loop-again c =
     let p2 = p1 .before .before .before .before in
     let c-loop = p2 .loop in
     let c-pre = p2 .before .before .before .pre in
-    let f = c-loop .inv .1 in (run-next (c-pre .0 .0) (c-pre .0 .1) (c-loop .head) (c-loop .tail) (f .runs (c-pre .1 .0) (c-pre .1 .1)) (c-loop-test .taken) (c-at .ensures .0) (c-visit-vertex .ensures) .ahead, record { size = c-visit-vertex .ensures .size ∙ f .size; tables = c-visit-vertex .ensures .frame ∙ f .tables; runs = λ m s. run-next (c-pre .0 .0) (c-pre .0 .1) (c-loop .head) (c-loop .tail) (f .runs m s) (c-loop-test .taken) (c-at .ensures .0) (c-visit-vertex .ensures) })
+    let f = c-loop .inv .2 in let g = run-grows (c-pre .0 .0) (c-pre .0 .1) (c-loop .head) (c-loop .tail) (f .runs (c-pre .1 .0) (c-pre .1 .1)) (c-loop-test .taken) (c-at .ensures .0) (c-visit-vertex .ensures) in let k = c-loop .inv .1 in (run-next (c-pre .0 .0) (c-pre .0 .1) (c-loop .head) (c-loop .tail) (f .runs (c-pre .1 .0) (c-pre .1 .1)) (c-loop-test .taken) (c-at .ensures .0) (c-visit-vertex .ensures) .ahead, omega arith, record { size = c-visit-vertex .ensures .size ∙ f .size; tables = c-visit-vertex .ensures .frame ∙ f .tables; runs = λ m s. run-next (c-pre .0 .0) (c-pre .0 .1) (c-loop .head) (c-loop .tail) (f .runs m s) (c-loop-test .taken) (c-at .ensures .0) (c-visit-vertex .ensures) })
 
 same-length : tie.Need-same-length Inv-loop μ-loop
 same-length c =
     let c-loop = c .before .loop in
-    c-loop .inv .1 .size
+    c-loop .inv .2 .size
 
 returns : tie.Need-returns Inv-loop μ-loop
 returns c =
     let c-loop-test = c .loop-test in
     let c-loop = c .before .loop in
-    let z = c-loop-test .left in let a = c-loop .inv .0 in let e : c-loop .head ≡ c-loop .tail = omega arith in rw e at (c-loop .inv .1)
+    let z = c-loop-test .left in let a = c-loop .inv .0 in let e : c-loop .head ≡ c-loop .tail = omega arith in rw e at (c-loop .inv .2)
 
 pub settle-all-spec : {M : Type 1} → statement M
 settle-all-spec =

@@ -41,8 +41,7 @@ use denote.Triple.Table.{entered, cited}
 use denote.Triple.Walked.{says, needs, Stays, stay-none, walkOf, goes-none, Walks, ends-at, walked, walk-meets}
 use denote.Exit.{yes}
 use denote.Triple.Clauses.{ensured, lasts}
-use Rattle.theory.specs.Words.{nextOf}
-use Rattle.graph.specs.Layout.{LinkIn}
+use Rattle.graph.specs.Layout.{LinkIn, nextIn}
 use Rattle.graph.specs.declared.Chain.{Chain}
 use Rattle.graph.proofs.ReaderLaws.{B, passed, apart}
 use Rattle.graph.proofs.Chain as T
@@ -65,7 +64,7 @@ Cal 𝓤 H A mem run = tripleOf 𝓤 H A cal.signature (cal.spec 𝓤 H A mem ru
 
 module _ {M : Type 1} (𝓤 : URA M) (H : Heap 𝓤) (A : Atoms 𝓤) (W : Given 𝓤 H A) (mem : Memory → SProp 𝓤) (run : Routine → Fun 𝓤) (κ : Lft) (q : Share) (d : Chain) where
   abbrev found : ℕ
-  found = nextOf (now (d .words)) (d .link)
+  found = nextIn (now (d .words)) (d .link)
 
   abbrev mach : Val
   mach = T′.lowered d

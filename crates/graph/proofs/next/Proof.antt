@@ -35,8 +35,7 @@ use denote.Triple.Table.{entered, cited}
 use denote.Triple.Walked.{says, needs, Stays, stay-none, stay-none-slice, walkOf, goes-none, goes-none-slice, Walks, ends-at, walked, walk-meets}
 use denote.Exit.{yes}
 use denote.Triple.Clauses.{ensured, lasts}
-use Rattle.theory.specs.Words.{nextOf}
-use Rattle.graph.specs.Layout.{LinkIn}
+use Rattle.graph.specs.Layout.{LinkIn, nextIn}
 use Rattle.graph.specs.declared.Chain.{Chain}
 use Rattle.graph.proofs.ReaderLaws.{B, New, Held, passed, to-new, goes-new, IsNew, new-said, same}
 use Rattle.graph.proofs.Chain as T
@@ -70,7 +69,7 @@ Link 𝓤 H A mem run = tripleOf 𝓤 H A link.signature (link.spec 𝓤 H A mem
 
 module _ {M : Type 1} (𝓤 : URA M) (H : Heap 𝓤) (A : Atoms 𝓤) (W : Given 𝓤 H A) (mem : Memory → SProp 𝓤) (run : Routine → Fun 𝓤) (κ : Lft) (q : Share) (s : RefT (List ℕ)) (n : ℕ) (ok : n < 2 ^ 64) where
   abbrev found : ℕ
-  found = nextOf (now s) n
+  found = nextIn (now s) n
 
   -- the struct's type as a local of a body has it
   abbrev αᵉ : NamedLft
@@ -93,7 +92,7 @@ module _ {M : Type 1} (𝓤 : URA M) (H : Heap 𝓤) (A : Atoms 𝓤) (W : Given
       move ! (1 ∷ []) $ frame ! $ nothing ! $ owned ! usize (Is usize) (uint-makes 𝓤 H A W w64) n _ (refl, ok) $ fjoin ! $ move ! (2 ∷ 0 ∷ []) $ fjoin ! $ frame ! $ done !
 
   abbrev IsNext : Chain → Chain → Type 0
-  IsNext r t = (t .words ≡ r .words) × (t .link ≡ nextOf (now (r .words)) (r .link))
+  IsNext r t = (t .words ≡ r .words) × (t .link ≡ nextIn (now (r .words)) (r .link))
 
   -- the call of `advance`, at the struct r with the machine value u
   abbrev to-advance : Chain → Val → Advance 𝓤 H A mem run .Ghost
@@ -141,7 +140,7 @@ module _ {M : Type 1} (𝓤 : URA M) (H : Heap 𝓤) (A : Atoms 𝓤) (W : Given
         peeks ! usize (Is usize) (shows 𝓤 H A usize) t (u₃ ∷ []) (λ is₃.
         land ! (from ! (stop !)) (init ! 11 refl (uint-lawful 𝓤 H A W w64 .typed t _ is₃ .0)) $
         returns ! (look ! 11 refl) $ forget ! 3 refl $ forget ! 5 refl $ forget ! 7 refl $ forget ! 9 refl $ forget ! 11 refl $ move ! (11 ∷ 12 ∷ []) $ free1 ! $ move ! (9 ∷ 10 ∷ []) $ free1 ! $ move ! (7 ∷ 8 ∷ []) $ free1 ! $ move ! (5 ∷ 6 ∷ []) $ free1 ! $ move ! (3 ∷ 4 ∷ []) $ free1 ! $ free0 ! $
-        by ! (exits t u₃ (e₃ ∙ e₂ .1 ∙ (ap (λ (x : RefT (List ℕ)). nextOf (now x) (r .link)) (e .0) ∙ ap (nextOf (now s)) (e .1)))))))))))))))))))))
+        by ! (exits t u₃ (e₃ ∙ e₂ .1 ∙ (ap (λ (x : RefT (List ℕ)). nextIn (now x) (r .link)) (e .0) ∙ ap (nextIn (now s)) (e .1)))))))))))))))))))))
 
 module _ {M : Type 1} (𝓤 : URA M) (H : Heap 𝓤) (A : Atoms 𝓤) (W : Given 𝓤 H A) (mem : Memory → SProp 𝓤) (run : Routine → Fun 𝓤) where
   next-walks : (C : Calls 𝓤 H) (Λ : Loops 𝓤 H) → FmC 𝓤 H (W .laws) C → Triple 𝓤 (C #graph·chain-of) (New 𝓤 H A mem run) → Triple 𝓤 (C #graph·chain-next) (Advance 𝓤 H A mem run) → Triple 𝓤 (C #graph·chain-link) (Link 𝓤 H A mem run) → Walks 𝓤 H A me.ended stayed (WpFn 𝓤 H C Λ code.function) (me.clauses 𝓤 H A mem run)

@@ -35,8 +35,7 @@ use denote.Triple.Table.{entered, cited}
 use denote.Triple.Walked.{says, needs, Stays, stay-none, stay-none-slice, walkOf, goes-none, goes-none-slice, Walks, ends-at, walked, walk-meets}
 use denote.Exit.{yes}
 use denote.Triple.Clauses.{ensured, lasts}
-use Rattle.theory.specs.Words.{valueOf}
-use Rattle.graph.specs.Layout.{LinkIn}
+use Rattle.graph.specs.Layout.{LinkIn, valueIn}
 use Rattle.graph.specs.declared.Chain.{Chain}
 use Rattle.graph.proofs.ReaderLaws.{B, New, Held, passed, to-new, goes-new, IsNew, new-said, same}
 use Rattle.graph.proofs.Chain as T
@@ -63,7 +62,7 @@ Value 𝓤 H A mem run = tripleOf 𝓤 H A value.signature (value.spec 𝓤 H A 
 
 module _ {M : Type 1} (𝓤 : URA M) (H : Heap 𝓤) (A : Atoms 𝓤) (W : Given 𝓤 H A) (mem : Memory → SProp 𝓤) (run : Routine → Fun 𝓤) (κ : Lft) (q : Share) (s : RefT (List ℕ)) (n : ℕ) (ok : n < 2 ^ 64) where
   abbrev found : ℕ
-  found = valueOf (now s) n
+  found = valueIn (now s) n
 
   -- the struct's type as a local of a body has it
   abbrev αᵉ : NamedLft
@@ -92,8 +91,8 @@ module _ {M : Type 1} (𝓤 : URA M) (H : Heap 𝓤) (A : Atoms 𝓤) (W : Given
   goes-value : (r : Chain) (u : Val) → LinkIn (now (r .words)) (r .link) → ent 𝓤 (⋆ 𝓤 H A (‵ (B (κ, tt) .own r (u ∷ [])) ∷ (‵ (flft κ q) ⊛ ‵ ftrue) ∷ [])) (Value 𝓤 H A mem run .pre (to-value r u))
   goes-value r u w = qed W (‵ (B (κ, tt) .own r (u ∷ [])) ∷ (‵ (flft κ q) ⊛ ‵ ftrue) ∷ []) ∵ says ! w $ nothing ! $ move ! (1 ∷ 0 ∷ []) $ fjoin ! $ move ! (1 ∷ 0 ∷ []) $ frame ! $ done !
 
-  value-said : (r : Chain) (t : ℕ) → ent 𝓤 (ensured 𝓤 H A value.ended (value.clauses 𝓤 H A mem run) (κ, tt) (r, tt) tt t) (fact 𝓤 (t ≡ valueOf (now (r .words)) (r .link)))
-  value-said r t = exE 𝓤 _ (λ ws. snd∗ 𝓤 (sem 𝓤 H A (lasts value.ended (κ, tt) (r, tt) ws)) (fact 𝓤 (t ≡ valueOf (now (r .words)) (r .link))))
+  value-said : (r : Chain) (t : ℕ) → ent 𝓤 (ensured 𝓤 H A value.ended (value.clauses 𝓤 H A mem run) (κ, tt) (r, tt) tt t) (fact 𝓤 (t ≡ valueIn (now (r .words)) (r .link)))
+  value-said r t = exE 𝓤 _ (λ ws. snd∗ 𝓤 (sem 𝓤 H A (lasts value.ended (κ, tt) (r, tt) ws)) (fact 𝓤 (t ≡ valueIn (now (r .words)) (r .link))))
 
   module _ (C : Calls 𝓤 H) (Λ : Loops 𝓤 H) (fm : FmC 𝓤 H (W .laws) C) (known-new : Triple 𝓤 (C #graph·chain-of) (New 𝓤 H A mem run)) (known-value : Triple 𝓤 (C #graph·chain-value) (Value 𝓤 H A mem run)) where
     walk : Is (ShrSlice (named 0) κ u16) s (v ∷ []) → LinkIn (now s) n → ent 𝓤 (onEntry 𝓤 H A me.signature (κ, tt) (q, tt) (s, (n, tt)) (passed s n)) (WpFn 𝓤 H C Λ code.function (v ∷ vint w64 n ∷ []) Post)
@@ -110,12 +109,12 @@ module _ {M : Type 1} (𝓤 : URA M) (H : Heap 𝓤) (A : Atoms 𝓤) (W : Given
         use2 W (raw (Value 𝓤 H A mem run .pre (to-value r u))) (goes-value r u (same r (e .0) (e .1) within)) $
         calls-at ! fm (Value 𝓤 H A mem run) known-value (to-value r u) (and-then ! (load ! (from ! (stop !)) (look ! 2 refl)) (no-more !)) (λ u′.
         use1 W (later (some (λ (t : ℕ). ((‵ (flft κ q) ⊛ ‵ ftrue) ⊛ ‵ (usize .own t (u′ ∷ []))) ⊛ raw (ensured 𝓤 H A value.ended (value.clauses 𝓤 H A mem run) (κ, tt) (r, tt) tt t)))) (id⊢ 𝓤 _) $ await ! tt $ pick ! (λ t.
-        split ! $ move ! (1 ∷ []) $ use1 W (raw (fact 𝓤 (t ≡ valueOf (now (r .words)) (r .link)))) (value-said r t) $ heard ! (t ≡ valueOf (now (r .words)) (r .link)) (λ e′. split ! $ move ! (1 ∷ []) $
+        split ! $ move ! (1 ∷ []) $ use1 W (raw (fact 𝓤 (t ≡ valueIn (now (r .words)) (r .link)))) (value-said r t) $ heard ! (t ≡ valueIn (now (r .words)) (r .link)) (λ e′. split ! $ move ! (1 ∷ []) $
         -- [the result; the token; what s owns; _3; …; _2; …; _1; …; room for _0; …]
         peeks ! usize (Is usize) (shows 𝓤 H A usize) t (u′ ∷ []) (λ is′.
         land ! (from ! (stop !)) (init ! 9 refl (uint-lawful 𝓤 H A W w64 .typed t _ is′ .0)) $
         returns ! (look ! 9 refl) $ forget ! 3 refl $ forget ! 5 refl $ forget ! 7 refl $ forget ! 9 refl $ move ! (9 ∷ 10 ∷ []) $ free1 ! $ move ! (7 ∷ 8 ∷ []) $ free1 ! $ move ! (5 ∷ 6 ∷ []) $ free1 ! $ move ! (3 ∷ 4 ∷ []) $ free1 ! $ free0 ! $
-        by ! (exits t u′ (e′ ∙ (ap (λ (x : RefT (List ℕ)). valueOf (now x) (r .link)) (e .0) ∙ ap (valueOf (now s)) (e .1))))))))))))))))
+        by ! (exits t u′ (e′ ∙ (ap (λ (x : RefT (List ℕ)). valueIn (now x) (r .link)) (e .0) ∙ ap (valueIn (now s)) (e .1))))))))))))))))
 
 module _ {M : Type 1} (𝓤 : URA M) (H : Heap 𝓤) (A : Atoms 𝓤) (W : Given 𝓤 H A) (mem : Memory → SProp 𝓤) (run : Routine → Fun 𝓤) where
   value-walks : (C : Calls 𝓤 H) (Λ : Loops 𝓤 H) → FmC 𝓤 H (W .laws) C → Triple 𝓤 (C #graph·chain-of) (New 𝓤 H A mem run) → Triple 𝓤 (C #graph·chain-value) (Value 𝓤 H A mem run) → Walks 𝓤 H A me.ended stayed (WpFn 𝓤 H C Λ code.function) (me.clauses 𝓤 H A mem run)

@@ -1,18 +1,20 @@
+use Rattle.graph.specs.Layout.{valueIn}
 use borrow.Author.Needs.{needs}
 use Rattle.graph.proofs.value_at.Statement.{statement}
 use Rattle.graph.proofs.value_at.Tie as tie
 
-link-at-requires : tie.Need-link-at-requires
-link-at-requires c κs = search needs
+mul-at : tie.Need-mul-at
+mul-at c = search needs
+
+sub-at : tie.Need-sub-at
+sub-at c = search needs
 
 at-requires : tie.Need-at-requires
 at-requires c κs = search needs
 
 returns : tie.Need-returns
-returns c =
-    let c-at = c .at in
-    let c-link-at = c .before .link-at in
-    rw (← c-link-at .ensures) (c-at .ensures .0)
+unfolding valueIn
+returns c = c .at .ensures .0
 
 pub value-at-spec : {M : Type 1} → statement M
-value-at-spec = tie.close (tie.spec link-at-requires at-requires returns)
+value-at-spec = tie.close (tie.spec mul-at sub-at at-requires returns)

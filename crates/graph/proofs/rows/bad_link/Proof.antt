@@ -5,24 +5,32 @@ use Rattle.graph.specs.Search.{Clear}
 use Rattle.graph.specs.Refusals.{badLink}
 use Rattle.graph.proofs.SearchLaws.{clear-none, clear-more, first-found, first-none}
 use Rattle.graph.proofs.RowLaws.{link-told}
+use Rattle.graph.proofs.DecodeLaws.{next-of, link-within}
 use borrow.Author.Needs.{needs}
 use Rattle.graph.proofs.rows.bad_link.Statement.{statement}
 use Rattle.graph.proofs.rows.bad_link.Tie as tie
 
 abbrev Inv-loop : tie.InvT-loop
-Inv-loop graph links l₀ l = (l ≤ links + 1) × Clear (badLink graph) 1 l
+Inv-loop graph end records l₀ l = (l ≤ end + 1) × Clear (badLink graph) 1 l
 
 abbrev μ-loop : tie.MeasureT-loop
-μ-loop graph links l₀ l = links + 1 - l
+μ-loop graph end records l₀ l = end + 1 - l
 
 links-requires : tie.Need-links-requires Inv-loop μ-loop
 links-requires c κs = search needs
+
+link-records-requires : tie.Need-link-records-requires Inv-loop μ-loop
+link-records-requires c κs = search needs
 
 loop-holds : tie.Need-loop-holds Inv-loop μ-loop
 loop-holds c = (omega arith, clear-none 1)
 
 next-requires : tie.Need-next-requires Inv-loop μ-loop
-next-requires c κs = search needs
+next-requires c κs =
+    let c-link-records = c .before .before .link-records in
+    let p1 = c .before .before .before .before .before in
+    let c-pre = p1 .pre in
+    link-within (c-link-records .ensures) (c-pre .size) (omega arith) (omega arith)
 
 bad-next-requires : tie.Need-bad-next-requires Inv-loop μ-loop
 bad-next-requires c κs = search needs
@@ -34,9 +42,11 @@ returns c =
     let c-next = c .before .before .next in
     let p1 = c .before .before .before .before in
     let c-loop = p1 .loop in
-    let c-links = p1 .before .links in
-    let c-args = p1 .before .before .before .args in
-    first-found (c-loop .inv .1) (omega arith) (link-told (now (c-args .graph)) (c-loop .l) (c-bad-next .ensures) (c-next .ensures) (c-links .ensures) (c-if1 .taken))
+    let c-link-records = p1 .before .link-records in
+    let c-links = p1 .before .before .links in
+    let p2 = p1 .before .before .before .before in
+    let c-args = p2 .args in
+    first-found (c-loop .inv .1) (omega arith) (link-told (now (c-args .graph)) (c-loop .l) (c-bad-next .ensures) (next-of (c-link-records .ensures) (c-loop .l) (c-next .ensures) (omega arith)) (c-links .ensures) (c-if1 .taken))
 
 add-l : tie.Need-add-l Inv-loop μ-loop
 add-l c = search needs
@@ -51,9 +61,11 @@ loop-again c =
     let c-next = c .before .before .next in
     let p1 = c .before .before .before .before in
     let c-loop = p1 .loop in
-    let c-links = p1 .before .links in
-    let c-args = p1 .before .before .before .args in
-    (omega arith, clear-more (c-loop .inv .1) (link-told (now (c-args .graph)) (c-loop .l) (c-bad-next .ensures) (c-next .ensures) (c-links .ensures) (c-if1 .left)))
+    let c-link-records = p1 .before .link-records in
+    let c-links = p1 .before .before .links in
+    let p2 = p1 .before .before .before .before in
+    let c-args = p2 .args in
+    (omega arith, clear-more (c-loop .inv .1) (link-told (now (c-args .graph)) (c-loop .l) (c-bad-next .ensures) (next-of (c-link-records .ensures) (c-loop .l) (c-next .ensures) (omega arith)) (c-links .ensures) (c-if1 .left)))
 
 returns-2 : tie.Need-returns-2 Inv-loop μ-loop
 returns-2 c =
@@ -67,6 +79,7 @@ bad-link-spec =
     Inv-loop
     μ-loop
     links-requires
+    link-records-requires
     loop-holds
     next-requires
     bad-next-requires

@@ -6,27 +6,31 @@ use Rattle.theory.specs.Words.{chain, theoryOf}
 use Rattle.theory.proofs.ChainLaws.{ending-link, chain-falls}
 use Rattle.graph.specs.Layout.{headLink}
 use Rattle.graph.proofs.FollowLaws.{Between, Along, between-none, between-all, along-first, along-wrong, along-next, along-end, along-few, chain-few}
+use Rattle.graph.proofs.DecodeLaws.{value-of, next-of, link-within}
 use borrow.Author.Needs.{needs}
 use Rattle.graph.proofs.rows.walk_heads.Statement.{statement}
 use Rattle.graph.proofs.rows.walk_heads.Tie as tie
 
 abbrev Inv-loop : tie.InvT-loop
-Inv-loop graph end atoms entries₀ p l₀ entries l = Along graph (λ p. getD graph 1 0) (headLink graph) p entries l
+Inv-loop graph end atoms links entries₀ p l₀ entries l = Along graph (λ p. getD graph 1 0) (headLink graph) p entries l
 
 abbrev μ-loop : tie.MeasureT-loop
-μ-loop graph end atoms entries₀ p l₀ entries l = length (chain graph l)
+μ-loop graph end atoms links entries₀ p l₀ entries l = length (chain graph l)
 
 abbrev Inv-producers : tie.InvT-producers
-Inv-producers graph end atoms entries₀ p₀ entries p = (p ≤ end) × Between graph (λ p. getD graph 1 0) (headLink graph) p entries
+Inv-producers graph end atoms links entries₀ p₀ entries p = (p ≤ end) × Between graph (λ p. getD graph 1 0) (headLink graph) p entries
 
 abbrev μ-producers : tie.MeasureT-producers
-μ-producers graph end atoms entries₀ p₀ entries p = end - p
+μ-producers graph end atoms links entries₀ p₀ entries p = end - p
 
 producers-requires : tie.Need-producers-requires Inv-loop μ-loop Inv-producers μ-producers
 producers-requires c κs = search needs
 
 atoms-requires : tie.Need-atoms-requires Inv-loop μ-loop Inv-producers μ-producers
 atoms-requires c κs = search needs
+
+link-records-requires : tie.Need-link-records-requires Inv-loop μ-loop Inv-producers μ-producers
+link-records-requires c κs = search needs
 
 producers-holds : tie.Need-producers-holds Inv-loop μ-loop Inv-producers μ-producers
 producers-holds c = (omega arith, between-none)
@@ -38,31 +42,35 @@ loop-holds : tie.Need-loop-holds Inv-loop μ-loop Inv-producers μ-producers
 loop-holds c =
     let c-first-head = c .first-head in
     let c-producers = c .before .before .producers in
-    let p1 = c .before .before .before .before .before .before in
+    let p1 = c .before .before .before .before .before .before .before in
     let c-pre = p1 .pre in
     rw (c-first-head .ensures) (along-first (c-producers .inv .1) (c-pre .1 .head-chain _ (omega arith)))
 
 value-requires : tie.Need-value-requires Inv-loop μ-loop Inv-producers μ-producers
 value-requires c κs =
     let c-loop = c .before .loop in
-    let p1 = c .before .before .before .before .before .before .before .before in
-    let c-pre = p1 .pre in
-    record { size = c-pre .0 .size; some = omega arith; within = ending-link _ (c-loop .inv .ending) }
+    let p1 = c .before .before .before .before .before in
+    let c-link-records = p1 .link-records in
+    let p2 = p1 .before .before .before .before in
+    let c-pre = p2 .pre in
+    link-within (c-link-records .ensures) (c-pre .0 .size) (omega arith) (ending-link _ (c-loop .inv .ending))
 
 add-entries : tie.Need-add-entries Inv-loop μ-loop Inv-producers μ-producers
 add-entries c =
     let c-loop-test = c .before .before .loop-test in
     let c-loop = c .before .before .before .loop in
-    let p1 = c .before .before .before .before .before .before .before .before .before .before in
+    let p1 = c .before .before .before .before .before .before .before .before .before .before .before in
     let c-pre = p1 .pre in
     omega (arith, along-few (c-loop .inv) (c-loop-test .taken) 4096 (λ m. le-trans (chain-few _ m) (c-pre .0 .links-few)))
 
 next-requires : tie.Need-next-requires Inv-loop μ-loop Inv-producers μ-producers
 next-requires c κs =
     let c-loop = c .before .before .before .loop in
-    let p1 = c .before .before .before .before .before .before .before .before .before .before in
-    let c-pre = p1 .pre in
-    record { size = c-pre .0 .size; some = omega arith; within = ending-link _ (c-loop .inv .ending) }
+    let p1 = c .before .before .before .before .before .before .before in
+    let c-link-records = p1 .link-records in
+    let p2 = p1 .before .before .before .before in
+    let c-pre = p2 .pre in
+    link-within (c-link-records .ensures) (c-pre .0 .size) (omega arith) (ending-link _ (c-loop .inv .ending))
 
 loop-less : tie.Need-loop-less Inv-loop μ-loop Inv-producers μ-producers
 loop-less c =
@@ -70,7 +78,9 @@ loop-less c =
     let c-loop-test = c .before .before .before .loop-test in
     let p1 = c .before .before .before .before in
     let c-loop = p1 .loop in
-    rw (c-next .ensures) (chain-falls _ (c-loop .inv .ending) (c-loop-test .taken))
+    let p2 = p1 .before .before .before .before in
+    let c-link-records = p2 .link-records in
+    rw (next-of (c-link-records .ensures) (c-loop .l) (c-next .ensures) (omega arith)) (chain-falls _ (c-loop .inv .ending) (c-loop-test .taken))
 
 loop-again : tie.Need-loop-again Inv-loop μ-loop Inv-producers μ-producers
 loop-again c =
@@ -79,7 +89,9 @@ loop-again c =
     let c-loop-test = c .before .before .before .loop-test in
     let p1 = c .before .before .before .before in
     let c-loop = p1 .loop in
-    rw (c-next .ensures) (along-next (c-loop .inv) (c-loop-test .taken) (c-value .ensures) (omega arith))
+    let p2 = p1 .before .before .before .before in
+    let c-link-records = p2 .link-records in
+    rw (next-of (c-link-records .ensures) (c-loop .l) (c-next .ensures) (omega arith)) (along-next (c-loop .inv) (c-loop-test .taken) (value-of (c-link-records .ensures) (c-loop .l) (c-value .ensures) (omega arith)) (omega arith))
 
 add-p : tie.Need-add-p Inv-loop μ-loop Inv-producers μ-producers
 add-p c = search needs
@@ -108,7 +120,8 @@ returns-2 c =
     let c-loop = c .before .before .before .loop in
     let p1 = c .before .before .before .before .before .before in
     let c-producers = p1 .producers in
-    along-wrong (c-loop .inv) (c-loop-test .taken) (c-value .ensures) (omega arith) (c-producers .inv .1) (omega arith)
+    let c-link-records = p1 .before .link-records in
+    along-wrong (c-loop .inv) (c-loop-test .taken) (value-of (c-link-records .ensures) (c-loop .l) (c-value .ensures) (omega arith)) (omega arith) (c-producers .inv .1) (omega arith)
 
 pub walk-heads-spec : {M : Type 1} → statement M
 walk-heads-spec =
@@ -120,6 +133,7 @@ walk-heads-spec =
     μ-producers
     producers-requires
     atoms-requires
+    link-records-requires
     producers-holds
     first-head-requires
     loop-holds
