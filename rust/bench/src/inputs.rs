@@ -20,17 +20,23 @@ pub struct Input {
     pub parts: usize,
 }
 
-/// Different graphs of each size, so that no call sees the same one twice in a row.
-const GRAPHS: u64 = 8;
+/// The atoms of all graphs of one size. Together the graphs of each size are
+/// equally large: of a few small ones a processor learns every branch by heart,
+/// and of as many large ones it does not.
+const ATOMS: usize = 8 * 1_024;
 
-/// Every size, without loops and with.
-pub fn all() -> Vec<Input> {
-    let each = |size: usize| [false, true].map(|loops| input(size, loops));
+/// Every size, without loops and with: so many graphs of each, or as many as
+/// have [`ATOMS`].
+pub fn all(graphs: Option<usize>) -> Vec<Input> {
+    let each = |size: usize| {
+        let graphs = graphs.unwrap_or(ATOMS / size);
+        [false, true].map(|loops| input(size, loops, graphs))
+    };
     SIZES.into_iter().flat_map(each).collect()
 }
 
-fn input(size: usize, loops: bool) -> Input {
-    let graphs: Vec<Vec<u16>> = (0..GRAPHS)
+fn input(size: usize, loops: bool, graphs: usize) -> Input {
+    let graphs: Vec<Vec<u16>> = (0..graphs as u64)
         .map(|number| graph(&mut Rng::new(number), size, loops))
         .collect();
     let parts = graphs.iter().map(|words| parts(words)).sum();

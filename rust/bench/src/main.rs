@@ -1,7 +1,8 @@
-//! `bench [--bars] [--plot FILE] [--rounds COUNT]`: times and ratios as tables.
+//! `bench [--bars] [--plot FILE] [--rounds COUNT] [--graphs COUNT]`: times and
+//! ratios as tables.
 //!
 //! With `--bars` it ends with 1 if a bar does not hold; with `--plot` it writes
-//! the picture.
+//! the picture; with `--graphs` there are so many graphs of each size.
 
 use std::process::ExitCode;
 
@@ -11,6 +12,11 @@ struct Asked {
     bars: bool,
     plot: Option<String>,
     rounds: usize,
+    graphs: Option<usize>,
+}
+
+fn count(word: Option<String>) -> Option<usize> {
+    word?.parse().ok().filter(|&count| count > 0)
 }
 
 fn asked() -> Option<Asked> {
@@ -18,13 +24,15 @@ fn asked() -> Option<Asked> {
         bars: false,
         plot: None,
         rounds: 1_000,
+        graphs: None,
     };
     let mut words = std::env::args().skip(1);
     while let Some(word) = words.next() {
         match word.as_str() {
             "--bars" => asked.bars = true,
             "--plot" => asked.plot = Some(words.next()?),
-            "--rounds" => asked.rounds = words.next()?.parse().ok().filter(|&count| count > 0)?,
+            "--rounds" => asked.rounds = count(words.next())?,
+            "--graphs" => asked.graphs = Some(count(words.next())?),
             _ => return None,
         }
     }
@@ -33,13 +41,13 @@ fn asked() -> Option<Asked> {
 
 fn main() -> ExitCode {
     let Some(asked) = asked() else {
-        eprintln!("bench [--bars] [--plot FILE] [--rounds COUNT]");
+        eprintln!("bench [--bars] [--plot FILE] [--rounds COUNT] [--graphs COUNT]");
         return ExitCode::from(2);
     };
     if cfg!(debug_assertions) {
         eprintln!("the Rust is measured with its checks on: use --profile speed");
     }
-    let measured = measure::all(&inputs::all(), asked.rounds);
+    let measured = measure::all(&inputs::all(asked.graphs), asked.rounds);
     println!("{}", report::times(&measured));
     println!("{}", report::parts(&measured));
     println!("{}", report::befores(&measured));

@@ -9,9 +9,10 @@ use paper::{Graph, Kind};
 
 #[test]
 fn shape_of_the_inputs() {
-    let all = inputs::all();
+    let all = inputs::all(None);
     assert_eq!(all.len(), 2 * SIZES.len());
     for input in all {
+        assert_eq!(input.graphs.len() * input.size, 8 * 1_024);
         let mut parts = 0;
         for words in &input.graphs {
             let graph = Graph::decode(words).expect("accepted");
@@ -36,7 +37,7 @@ fn shape_of_the_inputs() {
 
 #[test]
 fn both_sides_answer_alike() {
-    for input in inputs::all() {
+    for input in inputs::all(None) {
         let mut ours = Ours::new(input.size);
         for words in &input.graphs {
             let mut theirs = Theirs::new(words);
