@@ -6,7 +6,7 @@ use mathlib.Core.Bool.{Bool, true, false, cond}
 use mathlib.Core.List.{List, [], _∷_, _++_, append-nil, List·Memᴰ·not-nil}
 use Prim.Native.Nat.{ℕ, zero, suc, _+_, _-_, _*_, _≤_, _<_}
 use native.Mathlib.Omega.{arith}
-use lib.ListN.{length, getD, set, take, drop, length-set, length-take, length-drop}
+use lib.ListN.{length, getD, set, drop, length-set, length-take, length-drop}
 use lib.Seq.{getD-set-same, getD-set-other, take-set-le, drop-set-lt}
 use Rattle.theory.specs.Sets.{Is, Set, Mem, member}
 use Rattle.theory.specs.Theory.{Theory, joins}
@@ -22,39 +22,6 @@ use Rattle.area.proofs.ListLaws.{list-more, list-before, list-after, list-entry
 use Rattle.cones.specs.Cones.{markOf, nodesOf, Found}
 use Rattle.cones.specs.Finding.{Finding, Stage, stage, Searching}
 use Rattle.cones.proofs.FindLaws.{find-low, find-mark, find-skip, find-room, find-add, find-bound, find-leaves, find-end}
-
--- a node is marked, and listed behind count others
-abbrev included : Bases → List ℕ → (n count : ℕ) → List ℕ
-included b w n count = set (set w (b .states + 2 * n) 1) (b .«body_nodes» + count) n
-
-module _ (b : Bases) (laid : Laid b) (w : List ℕ) (ends : b .end ≤ length w) (n count : ℕ) (low : n < b .nodes) (room : count ≤ b .nodes) where
-  abbrev marked : List ℕ
-  marked = set w (b .states + 2 * n) 1
-
-  included-size : length (included b w n count) ≡ length w
-  included-size = length-set marked (b .«body_nodes» + count) n ∙ length-set w (b .states + 2 * n) 1
-
-  included-frame : take (b .states) (included b w n count) ≡ take (b .states) w
-  included-frame = take-set-le (b .states) marked (b .«body_nodes» + count) n (omega arith) ∙ take-set-le (b .states) w (b .states + 2 * n) 1 (omega arith)
-
-  included-beyond : drop (b .«fact_rows») (included b w n count) ≡ drop (b .«fact_rows») w
-  included-beyond = drop-set-lt (b .«fact_rows») marked (b .«body_nodes» + count) n (omega arith) ∙ drop-set-lt (b .«fact_rows») w (b .states + 2 * n) 1 (omega arith)
-
-  included-more : nodesOf b (included b w n count) (count + 1) ≡ nodesOf b w count ++ (n ∷ [])
-  included-more =
-      list-more (b .«body_nodes») count marked n (rw length-set (omega arith))
-      ∙ ap (λ (l : List ℕ). l ++ (n ∷ [])) (list-before (b .«body_nodes») count w (b .states + 2 * n) 1 (omega arith))
-
-  included-same : (k : ℕ) → k ≤ count → nodesOf b (included b w n count) k ≡ nodesOf b w k
-  included-same k h = list-after (b .«body_nodes») k marked (b .«body_nodes» + count) n (omega arith) ∙ list-before (b .«body_nodes») k w (b .states + 2 * n) 1 (omega arith)
-
-  included-here : markOf b (included b w n count) n ≡ 1
-  included-here = getD-set-other marked (b .«body_nodes» + count) (b .states + 2 * n) n 0 (λ e. omega arith) ∙ getD-set-same w (b .states + 2 * n) 1 0 (omega arith)
-
-  included-other : (m : ℕ) → m < b .nodes → m ≢ n → markOf b (included b w n count) m ≡ markOf b w m
-  included-other m l d =
-      getD-set-other marked (b .«body_nodes» + count) (b .states + 2 * m) n 0 (λ e. omega arith)
-      ∙ getD-set-other w (b .states + 2 * n) (b .states + 2 * m) 1 0 (λ e. d (omega arith))
 
 -- what a function that includes n needs
 pub record Ready (lim : ℕ) (b : Bases) (w : List ℕ) (count n : ℕ) : Type 0 where
@@ -83,52 +50,71 @@ module _ {lim : ℕ} {b : Bases} {w : List ℕ} {count n : ℕ} where
     low = let e = s .nodes in let h = find-low (s .finding) in omega arith;
     small = s .small;
     room = s .room;
-    mark = let e = s .nodes in find-mark (s .finding);
+    mark = find-mark (s .finding);
   }
 
   module _ (r : Ready lim b w count n) where
-    -- words, and a count, that hold the search with n found
+    -- n is marked, and stored behind the list
+    abbrev marked : List ℕ
+    marked = set w (b .states + 2 * n) 1
+
+    abbrev included : List ℕ
+    included = set marked (b .«body_nodes» + count) n
+
+    included-size : length included ≡ length w
+    included-size = length-set marked (b .«body_nodes» + count) n ∙ length-set w (b .states + 2 * n) 1
+
+    included-same : (k : ℕ) → k ≤ count → nodesOf b included k ≡ nodesOf b w k
+    included-same k h =
+        let l = r .laid in let q = r .low in let e = r .room in
+        list-after (b .«body_nodes») k marked (b .«body_nodes» + count) n (omega arith) ∙ list-before (b .«body_nodes») k w (b .states + 2 * n) 1 (omega arith)
+
+    here : markOf b included n ≡ 1
+    here =
+        let l = r .laid in let q = r .low in let e = r .ends in
+        getD-set-other marked (b .«body_nodes» + count) (b .states + 2 * n) n 0 (λ e. omega arith) ∙ getD-set-same w (b .states + 2 * n) 1 0 (omega arith)
+
+    others : {c : Stage} {more : List ℕ} → Searching lim b c w count (n ∷ more) → (m : ℕ) → m < c .theory .nodes → m ≢ n → markOf b included m ≡ markOf b w m
+    others s m l d =
+        let k = r .laid in let q = s .nodes in
+        getD-set-other marked (b .«body_nodes» + count) (b .states + 2 * m) n 0 (λ e. omega arith)
+        ∙ getD-set-other w (b .states + 2 * n) (b .states + 2 * m) 1 0 (λ e. d (omega arith))
+
+    -- the search is held with n found and k nodes listed
     driven : {k : ℕ} → ((c : Stage) (more : List ℕ) → Searching lim b c w count (n ∷ more) → (k ≤ b .nodes) × (count ≤ k)
-        × Finding (c .theory) (c .wanted) (c .below) (nodesOf b (included b w n count) k) (nodesOf b w (c .next)) more (markOf b (included b w n count)))
-        → Drives (Searching lim b) (b .states) w count (n ∷ []) (included b w n count) k []
-    driven next = record {
-      frame = included-frame b (r .laid) w (r .ends) n count (r .low) (r .room);
-      size = included-size b (r .laid) w (r .ends) n count (r .low) (r .room);
-      keeps = λ c more s. let f = next c more s in record {
-        laid = r .laid;
-        ends = rw (included-size b (r .laid) w (r .ends) n count (r .low) (r .room)) (r .ends);
-        nodes = s .nodes;
-        small = s .small;
-        behind = let h = s .behind in let k = f .1 in omega arith;
-        room = f .0;
-        finding = rw (included-same b (r .laid) w (r .ends) n count (r .low) (r .room) (c .next) (s .behind)) (f .2);
-        beyond = included-beyond b (r .laid) w (r .ends) n count (r .low) (r .room) ∙ s .beyond;
-      };
-    }
+        × Finding (c .theory) (c .wanted) (c .below) (nodesOf b included k) (nodesOf b w (c .next)) more (markOf b included))
+        → Drives (Searching lim b) (b .states) w count (n ∷ []) included k []
+    driven next =
+        let l = r .laid in let q = r .low in let o = r .room in
+        record {
+          frame = take-set-le (b .states) marked (b .«body_nodes» + count) n (omega arith) ∙ take-set-le (b .states) w (b .states + 2 * n) 1 (omega arith);
+          size = included-size;
+          keeps = λ c more s. let f = next c more s in record {
+            laid = r .laid;
+            ends = rw included-size (r .ends);
+            nodes = s .nodes;
+            small = s .small;
+            behind = let h = s .behind in let k = f .1 in omega arith;
+            room = f .0;
+            finding = rw (included-same (c .next) (s .behind)) (f .2);
+            beyond = drop-set-lt (b .«fact_rows») marked (b .«body_nodes» + count) n (omega arith) ∙ drop-set-lt (b .«fact_rows») w (b .states + 2 * n) 1 (omega arith) ∙ s .beyond;
+          };
+        }
 
-    others : {c : Stage} {more : List ℕ} → Searching lim b c w count (n ∷ more) → (m : ℕ) → m < c .theory .nodes → m ≢ n → markOf b (included b w n count) m ≡ markOf b w m
-    others s m l d = included-other b (r .laid) w (r .ends) n count (r .low) (r .room) m (let e = s .nodes in omega arith) d
-
-    here : markOf b (included b w n count) n ≡ 1
-    here = included-here b (r .laid) w (r .ends) n count (r .low) (r .room)
-
-    search-skip : markOf b w n ≡ 1 → Drives (Searching lim b) (b .states) w count (n ∷ []) (included b w n count) count []
-    search-skip o = driven (λ c more s. (
-      s .room,
-      omega arith,
-      rw (included-same b (r .laid) w (r .ends) n count (r .low) (r .room) count (omega arith)) (find-skip (s .finding) o here (others s)),
-    ))
-
-    search-add : markOf b w n ≡ 0 → Drives (Searching lim b) (b .states) w count (n ∷ []) (included b w n count) (count + 1) []
-    search-add z = driven (λ c more s. (
-      let k = search-room s z in omega arith,
-      omega arith,
-      rw (included-more b (r .laid) w (r .ends) n count (r .low) (r .room)) (find-add (s .finding) z here (others s)),
-    ))
-
-    pub search-include : (x : ℕ) → x ≡ markOf b w n → Drives (Searching lim b) (b .states) w count (n ∷ []) (included b w n count) (count + 1 - x) []
-    search-include zero e = let k : count + 1 - 0 ≡ count + 1 = omega arith in rw k (search-add (sym e))
-    search-include (suc x) e = let m = r .mark in let z : x ≡ 0 = omega arith in let k : count + 1 - suc x ≡ count = omega arith in rw k (search-skip (rw z at (sym e)))
+    -- whether n was marked before, x, is all that the count depends on
+    pub search-include : (x : ℕ) → x ≡ markOf b w n → Drives (Searching lim b) (b .states) w count (n ∷ []) included (count + 1 - x) []
+    search-include zero e =
+        let l = r .laid in let q = r .low in let o = r .room in let z = r .ends in
+        let k : count + 1 - 0 ≡ count + 1 = omega arith in
+        let more =
+        list-more (b .«body_nodes») count marked n (rw length-set (omega arith))
+        ∙ ap (λ (l : List ℕ). l ++ (n ∷ [])) (list-before (b .«body_nodes») count w (b .states + 2 * n) 1 (omega arith)) in
+        rw k (driven (λ c rest s. (let h = search-room s (sym e) in omega arith, omega arith, rw more (find-add (s .finding) (sym e) here (others s)))))
+    search-include (suc x) e =
+        let m = r .mark in
+        let z : x ≡ 0 = omega arith in
+        let k : count + 1 - suc x ≡ count = omega arith in
+        rw k (driven (λ c rest s. (s .room, omega arith, rw (included-same count (omega arith)) (find-skip (s .finding) (rw z at (sym e)) here (others s)))))
 
 -- the same nodes are found, and other ones may come next
 pub search-on : {lim : ℕ} {b : Bases} {c : Stage} {w : List ℕ} {count : ℕ} {todo : List ℕ} → Searching lim b c w count todo → {p next : ℕ} {rest w′ todo′ : List ℕ} → length w′ ≡ length w → next ≤ count
