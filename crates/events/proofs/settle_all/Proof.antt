@@ -1,5 +1,5 @@
 use mathlib.Core.Path.{_≡_, refl, _∙_}
-use Prim.Native.Nat.{_+_, _-_, _≤_}
+use Prim.Native.Nat.{_+_, _-_, _≤_, _<_}
 use native.Mathlib.Omega.{arith}
 use Rattle.events.specs.Run.{Ran}
 use Rattle.events.proofs.RunLaws.{tail-low, head-low, run-follows, run-grows, run-next}
@@ -26,7 +26,7 @@ add-at c =
     let c-loop = c .before .before .before .loop in
     let p1 = c .before .before .before .before .before .before in
     let c-pre = p1 .pre in
-    let r = c-loop .inv .2 .runs (c-pre .1 .0) (c-pre .1 .1) in let t = tail-low (c-pre .0 .0) (c-pre .0 .1) (c-loop .head) (c-loop .tail) r in let l = c-pre .0 .1 .laid in let q = c-pre .0 .1 .ends in let z = c-loop-test .taken in omega arith
+    let r = c-loop .inv .2 .runs (c-pre .1 .0) (c-pre .1 .1) in let t = tail-low (c-pre .0 .0) (c-pre .0 .1) (c-loop .head) (c-loop .tail) r in let l = c-pre .0 .1 .laid in let q = c-pre .0 .1 .ends in let z = c-loop-test .taken in let y = c-loop .inv .1 in omega arith
 
 at-requires : tie.Need-at-requires Inv-loop μ-loop
 at-requires c κs =
@@ -34,7 +34,7 @@ at-requires c κs =
     let c-loop = c .before .before .before .loop in
     let p1 = c .before .before .before .before .before .before in
     let c-pre = p1 .pre in
-    let r = c-loop .inv .2 .runs (c-pre .1 .0) (c-pre .1 .1) in let t = tail-low (c-pre .0 .0) (c-pre .0 .1) (c-loop .head) (c-loop .tail) r in let l = c-pre .0 .1 .laid in let q = r .held .long in let z = c-loop-test .taken in omega arith
+    let r = c-loop .inv .2 .runs (c-pre .1 .0) (c-pre .1 .1) in let t = tail-low (c-pre .0 .0) (c-pre .0 .1) (c-loop .head) (c-loop .tail) r in let l = c-pre .0 .1 .laid in let q = r .held .long in let z = c-loop-test .taken in let y = c-loop .inv .1 in omega arith
 
 visit-vertex-requires : tie.Need-visit-vertex-requires Inv-loop μ-loop
 visit-vertex-requires c κs =
@@ -44,7 +44,7 @@ visit-vertex-requires c κs =
     let c-loop = p1 .before .loop in
     let p2 = p1 .before .before .before .before in
     let c-pre = p2 .pre in
-    let f = c-loop .inv .2 in let r = f .runs (c-pre .1 .0) (c-pre .1 .1) in ((c-pre .0 .0, rw (f .size) (c-pre .0 .1), head-low (c-pre .0 .0) (c-pre .0 .1) (c-loop .head) (c-loop .tail) r (c-loop-test .taken) (c-at .ensures .0), tables-same (f .tables) (f .size) (c-pre .0 .2)), run-follows (c-pre .0 .0) (c-pre .0 .1) (c-loop .head) (c-loop .tail) r (c-loop-test .taken) (c-at .ensures .0))
+    let z = c-loop-test .taken in let y = c-loop .inv .1 in let h : c-loop .head < c-loop .tail = omega arith in let f = c-loop .inv .2 in let r = f .runs (c-pre .1 .0) (c-pre .1 .1) in ((c-pre .0 .0, rw (f .size) (c-pre .0 .1), head-low (c-pre .0 .0) (c-pre .0 .1) (c-loop .head) (c-loop .tail) r h (c-at .ensures .0), tables-same (f .tables) (f .size) (c-pre .0 .2)), run-follows (c-pre .0 .0) (c-pre .0 .1) (c-loop .head) (c-loop .tail) r h (c-at .ensures .0))
 
 add-head : tie.Need-add-head Inv-loop μ-loop
 add-head c =
@@ -53,7 +53,7 @@ add-head c =
     let c-loop = p1 .before .loop in
     let p2 = p1 .before .before .before .before in
     let c-pre = p2 .pre in
-    let r = c-loop .inv .2 .runs (c-pre .1 .0) (c-pre .1 .1) in let t = tail-low (c-pre .0 .0) (c-pre .0 .1) (c-loop .head) (c-loop .tail) r in let l = c-pre .0 .1 .laid in let q = c-pre .0 .1 .ends in let z = c-loop-test .taken in omega arith
+    let r = c-loop .inv .2 .runs (c-pre .1 .0) (c-pre .1 .1) in let t = tail-low (c-pre .0 .0) (c-pre .0 .1) (c-loop .head) (c-loop .tail) r in let l = c-pre .0 .1 .laid in let q = c-pre .0 .1 .ends in let z = c-loop-test .taken in let y = c-loop .inv .1 in omega arith
 
 loop-less : tie.Need-loop-less Inv-loop μ-loop
 loop-less c =
@@ -62,7 +62,7 @@ loop-less c =
     let c-loop = p1 .before .loop in
     let p2 = p1 .before .before .before .before in
     let c-pre = p2 .pre in
-    let r = c-loop .inv .2 .runs (c-pre .1 .0) (c-pre .1 .1) in let t = tail-low (c-pre .0 .0) (c-pre .0 .1) (c-loop .head) (c-loop .tail) r in let z = c-loop-test .taken in omega arith
+    let r = c-loop .inv .2 .runs (c-pre .1 .0) (c-pre .1 .1) in let t = tail-low (c-pre .0 .0) (c-pre .0 .1) (c-loop .head) (c-loop .tail) r in let z = c-loop-test .taken in let y = c-loop .inv .1 in omega arith
 
 loop-again : tie.Need-loop-again Inv-loop μ-loop
 loop-again c =
@@ -73,7 +73,7 @@ loop-again c =
     let p2 = p1 .before .before .before .before in
     let c-loop = p2 .loop in
     let c-pre = p2 .before .before .before .pre in
-    let f = c-loop .inv .2 in let g = run-grows (c-pre .0 .0) (c-pre .0 .1) (c-loop .head) (c-loop .tail) (f .runs (c-pre .1 .0) (c-pre .1 .1)) (c-loop-test .taken) (c-at .ensures .0) (c-visit-vertex .ensures) in let k = c-loop .inv .1 in (run-next (c-pre .0 .0) (c-pre .0 .1) (c-loop .head) (c-loop .tail) (f .runs (c-pre .1 .0) (c-pre .1 .1)) (c-loop-test .taken) (c-at .ensures .0) (c-visit-vertex .ensures) .ahead, omega arith, record { size = c-visit-vertex .ensures .size ∙ f .size; tables = c-visit-vertex .ensures .frame ∙ f .tables; runs = λ m s. run-next (c-pre .0 .0) (c-pre .0 .1) (c-loop .head) (c-loop .tail) (f .runs m s) (c-loop-test .taken) (c-at .ensures .0) (c-visit-vertex .ensures) })
+    let z = c-loop-test .taken in let y = c-loop .inv .1 in let h : c-loop .head < c-loop .tail = omega arith in let f = c-loop .inv .2 in let g = run-grows (c-pre .0 .0) (c-pre .0 .1) (c-loop .head) (c-loop .tail) (f .runs (c-pre .1 .0) (c-pre .1 .1)) h (c-at .ensures .0) (c-visit-vertex .ensures) in (run-next (c-pre .0 .0) (c-pre .0 .1) (c-loop .head) (c-loop .tail) (f .runs (c-pre .1 .0) (c-pre .1 .1)) h (c-at .ensures .0) (c-visit-vertex .ensures) .ahead, omega arith, record { size = c-visit-vertex .ensures .size ∙ f .size; tables = c-visit-vertex .ensures .frame ∙ f .tables; runs = λ m s. run-next (c-pre .0 .0) (c-pre .0 .1) (c-loop .head) (c-loop .tail) (f .runs m s) h (c-at .ensures .0) (c-visit-vertex .ensures) })
 
 same-length : tie.Need-same-length Inv-loop μ-loop
 same-length c =
