@@ -21,8 +21,8 @@ pub struct Input {
 }
 
 /// The atoms of all graphs of one size. Together the graphs of each size are
-/// equally large: of a few small ones a processor learns every branch by heart,
-/// and of as many large ones it does not.
+/// equally large: a few small ones take less time a vertex when they are run
+/// again and again, and as many large ones do not.
 const ATOMS: usize = 8 * 1_024;
 
 /// Every size, without loops and with: so many graphs of each, or as many as
