@@ -1,4 +1,5 @@
 pub mod PartLaws
+pub mod WipeLaws
 pub mod LayoutLaws
 pub mod ListLaws
 pub mod MarkLaws

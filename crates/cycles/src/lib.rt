@@ -145,6 +145,6 @@ pub fn needed(graph: &[u16], work: &mut [u16]) -> Need
         return Need::Work;
     }
     let yes = cyclic(graph, work);
-    area::clear(work);
+    area::wipe(work);
     reply(yes)
 }

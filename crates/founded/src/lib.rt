@@ -44,7 +44,7 @@ fn hand_out(words: &mut [u16], from: usize, atoms: usize, output: &mut [u64])
 {
     let to = from + atoms;
     mask::pack_flags(&words[from..to], output);
-    area::clear(words);
+    area::wipe(words);
 }
 
 // Preparation after refusals 1 to 11.
@@ -60,7 +60,7 @@ fn prepare_accepted(graph: &[u16], output: &mut [u64], work: &mut [u16]) -> Prep
             Prepared::Done
         }
         Marks::Absorbed(n) => {
-            area::clear(work);
+            area::wipe(work);
             Prepared::Absorbed(n)
         }
     }
@@ -117,7 +117,7 @@ fn complete_accepted(
             Completed::Done
         }
         Marks::Absorbed(n) => {
-            area::clear(work);
+            area::wipe(work);
             Completed::Absorbed(n)
         }
     }

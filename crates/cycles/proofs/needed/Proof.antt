@@ -44,8 +44,8 @@ cyclic-requires c κs =
     let c-args = p1 .before .before .before .args in
     (accepted edition1 (now (c-args .graph)) (sym (c-check .ensures) ∙ ap answerOf (c-enum-told .given .1)), c-if1 .left)
 
-clear-requires : tie.Need-clear-requires
-clear-requires c κs = search needs
+wipe-requires : tie.Need-wipe-requires
+wipe-requires c κs = search needs
 
 reply-requires : tie.Need-reply-requires
 reply-requires c κs = search needs
@@ -56,7 +56,7 @@ same-length c = search needs
 returns-3 : tie.Need-returns-3
 returns-3 c =
     let c-reply = c .reply in
-    let c-clear = c .before .before .before .clear in
+    let c-wipe = c .before .before .before .wipe in
     let p1 = c .before .before .before .before .before .before .before in
     let c-cyclic = p1 .cyclic in
     let c-if1 = p1 .before .before .if1 in
@@ -64,7 +64,7 @@ returns-3 c =
     let p2 = p1 .before .before .before .before .before in
     let c-check = p2 .check in
     let c-args = p2 .before .before .before .args in
-    let n : length (c-cyclic .last .1 .0) ≡ 32768 = search needs in let r = answered (now (c-args .graph)) (now (c-args .work)) (sym (c-check .ensures) ∙ ap answerOf (c-enum-told .given .1)) (c-reply .result) (c-if1 .left) (c-reply .ensures ∙ ap loops (c-cyclic .ensures)) (c-clear .ensures ∙ ap (λ k. replicate k 0) n) in (r .answer, (r .work, r .walk))
+    let n : length (c-cyclic .last .1 .0) ≡ 32768 = search needs in let r = answered (now (c-args .graph)) (now (c-args .work)) (sym (c-check .ensures) ∙ ap answerOf (c-enum-told .given .1)) (c-reply .result) (c-if1 .left) (c-reply .ensures ∙ ap loops (c-cyclic .ensures)) (c-wipe .ensures ∙ ap (λ k. replicate k 0) n) in (r .answer, (r .work, r .walk))
 
 pub needed-spec : {M : Type 1} → statement M
 needed-spec =
@@ -75,7 +75,7 @@ needed-spec =
     returns
     returns-2
     cyclic-requires
-    clear-requires
+    wipe-requires
     reply-requires
     same-length
     returns-3)

@@ -43,8 +43,8 @@ hand-out-requires c κs =
 enum-known-marks : tie.Need-enum-known-marks
 enum-known-marks c = search needs
 
-clear-requires : tie.Need-clear-requires
-clear-requires c κs = search needs
+wipe-requires : tie.Need-wipe-requires
+wipe-requires c κs = search needs
 
 same-length : tie.Need-same-length
 same-length c = search needs
@@ -75,14 +75,14 @@ same-length-3 c = search needs
 returns-2 : tie.Need-returns-2
 unfolding Listed
 returns-2 c =
-    let c-clear = c .before .before .clear in
+    let c-wipe = c .before .before .wipe in
     let p1 = c .before .before .before .before .before in
     let c-marks = p1 .marks in
     let p2 = p1 .before .before .before .before in
     let c-missing = p2 .missing in
     let p3 = p2 .before .before .before .before .before .before .before .before in
     let c-pre = p3 .pre in
-    completes (absorbed-refused edition1 _ _ _ _ (c-pre .0) (c-pre .1) (work-fits _ (c-pre .2)) _ (c-clear .ensures) (rw (c-marks .given .1) at (c-missing .ensures))) (not-zero refl)
+    completes (absorbed-refused edition1 _ _ _ _ (c-pre .0) (c-pre .1) (work-fits _ (c-pre .2)) _ (c-wipe .ensures) (rw (c-marks .given .1) at (c-missing .ensures))) (not-zero refl)
 
 pub complete-accepted-spec : {M : Type 1} → statement M
 complete-accepted-spec =
@@ -93,7 +93,7 @@ complete-accepted-spec =
     enum-told
     hand-out-requires
     enum-known-marks
-    clear-requires
+    wipe-requires
     same-length
     same-length-2
     returns

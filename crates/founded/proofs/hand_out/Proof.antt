@@ -25,8 +25,8 @@ part-pack-flags-end c = search needs
 pack-flags-requires : tie.Need-pack-flags-requires
 pack-flags-requires c κs = search needs
 
-clear-requires : tie.Need-clear-requires
-clear-requires c κs = search needs
+wipe-requires : tie.Need-wipe-requires
+wipe-requires c κs = search needs
 
 same-length : tie.Need-same-length
 same-length c = search needs
@@ -36,13 +36,13 @@ same-length-2 c = search needs
 
 returns : tie.Need-returns
 returns c =
-    let c-clear = c .before .before .clear in
+    let c-wipe = c .before .before .wipe in
     let p1 = c .before .before .before .before .before .before in
     let c-pack-flags = p1 .pack-flags in
     let p2 = p1 .before .before .before .before .before .before in
     let c-args = p2 .args in
     let c-pre = p2 .pre in
-    let from = c-args .from in let n = c-args .atoms in (c-pack-flags .ensures ∙ part-pack from n (from + n - from) (now (c-args .words)) (c-pre .0) (omega arith), c-clear .ensures)
+    let from = c-args .from in let n = c-args .atoms in (c-pack-flags .ensures ∙ part-pack from n (from + n - from) (now (c-args .words)) (c-pre .0) (omega arith), c-wipe .ensures)
 
 pub hand-out-spec : {M : Type 1} → statement M
 hand-out-spec =
@@ -54,7 +54,7 @@ hand-out-spec =
     part-pack-flags-start
     part-pack-flags-end
     pack-flags-requires
-    clear-requires
+    wipe-requires
     same-length
     same-length-2
     returns)
