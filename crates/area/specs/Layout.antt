@@ -28,6 +28,43 @@ pub record Laid (b : Bases) : Type 0 where
 abbrev pub wordsFor : (atoms nodes producers leaves heads : ℕ) → ℕ
 wordsFor atoms nodes producers leaves heads = 7 * atoms + 8 * nodes + 2 * producers + leaves + heads + 5
 
+-- the regions, one after the other
+unfoldable pub layOut : (atoms nodes producers leaves heads : ℕ) → Bases
+layOut atoms nodes producers leaves heads =
+    let parents = atoms + 1 + nodes in
+    let by-head = parents + (nodes + 1 + leaves) in
+    let by-body = by-head + (atoms + 1 + heads) in
+    let states = by-body + (nodes + 1 + producers) in
+    let dependencies = states + 2 * nodes in
+    let queue = dependencies + (atoms + nodes) in
+    let body-nodes = queue + (atoms + nodes) in
+    let fact-rows = body-nodes + (atoms + nodes + 1) in
+    let founded-atoms = fact-rows + producers in
+    let cyclic-atoms = founded-atoms + atoms in
+    record {
+      atoms = atoms;
+      nodes = nodes;
+      producers = producers;
+      «leaf_entries» = leaves;
+      «head_entries» = heads;
+      «atom_nodes» = 0;
+      parents = parents;
+      «by_head» = by-head;
+      «by_body» = by-body;
+      states = states;
+      dependencies = dependencies;
+      queue = queue;
+      «body_nodes» = body-nodes;
+      «fact_rows» = fact-rows;
+      «founded_atoms» = founded-atoms;
+      «cyclic_atoms» = cyclic-atoms;
+      end = cyclic-atoms + atoms;
+    }
+
+-- those of a graph of the first edition
+abbrev pub basesOf : List ℕ → Bases
+basesOf ws = layOut (getD ws 1 0) (getD ws 2 0) (getD ws 3 0) 4096 4096
+
 pub record LaidOut (atoms nodes producers leaves heads : ℕ) (b : Bases) : Type 0 where
   pub laid : Laid b
   pub atoms-are : b .atoms ≡ atoms
@@ -36,6 +73,7 @@ pub record LaidOut (atoms nodes producers leaves heads : ℕ) (b : Bases) : Type
   pub leaves-are : b .«leaf_entries» ≡ leaves
   pub heads-are : b .«head_entries» ≡ heads
   pub ends : b .end ≤ wordsFor atoms nodes producers leaves heads
+  pub is : b ≡ layOut atoms nodes producers leaves heads
 
 -- the bases of a graph in an area of so many words
 pub record Based (ws : List ℕ) (words : ℕ) (b : Bases) : Type 0 where
@@ -46,3 +84,4 @@ pub record Based (ws : List ℕ) (words : ℕ) (b : Bases) : Type 0 where
   pub leaves : leafEntries (theoryOf ws) ≤ b .«leaf_entries»
   pub heads : headEntries (theoryOf ws) ≤ b .«head_entries»
   pub ends : b .end ≤ words
+  pub is : b ≡ basesOf ws

@@ -12,7 +12,7 @@ ghost use Rattle.theory.specs.Words.{chain, Ending, theoryOf};
 ghost use Rattle.theory.specs.Edges.{cone, bodyCone};
 ghost use Rattle.theory.specs.Accepted.{Accepted, edition1};
 ghost use Rattle.theory.specs.Drive.{Follows, Drives};
-ghost use Rattle.area.specs.Layout.{Laid, Based};
+ghost use Rattle.area.specs.Layout.{Laid, basesOf, Based};
 ghost use Rattle.cones.specs.Cones.{markOf, wantedBy, factBy, Flagged, Found, Kept, Held, bodyConed, cyclicConed};
 ghost use Rattle.cones.specs.Finding.{Searching, Begun};
 use area::Bases;
@@ -139,7 +139,7 @@ fn clear_marks(work: &mut [u16], b: Bases)
 }
 
 // The cone: first the bodies, then the leaves of each node of the list in turn. In an accepted graph only And and Or have leaves.
-fn find(graph: &[u16], work: &mut [u16], b: Bases, cyclic_only: bool) -> Cone
+fn find_in(graph: &[u16], work: &mut [u16], b: Bases, cyclic_only: bool) -> Cone
     requires { ⌜ Accepted edition1 (now graph) × Based (now graph) (length (now work)) b ⌝ }
     requires { ⌜ («cyclic_only» ≡ true → Flagged (theoryOf (now graph)) b (now work)) ⌝ }
     ensures { λ r. ⌜ Held (theoryOf (now (graph .entry))) (cone (theoryOf (now (graph .entry))) (wantedBy (theoryOf (now (graph .entry))) «cyclic_only»)) (factBy (theoryOf (now (graph .entry))) «cyclic_only») b (now (work .exit)) r × Kept b (now (work .entry)) (now (work .exit)) ⌝ }
@@ -158,6 +158,15 @@ fn find(graph: &[u16], work: &mut [u16], b: Bases, cyclic_only: bool) -> Cone
         nodes,
         facts: c.facts,
     }
+}
+
+// The same, with the bases worked out here (`area::bases_of` says why).
+fn find(graph: &[u16], work: &mut [u16], cyclic_only: bool) -> Cone
+    requires { ⌜ Accepted edition1 (now graph) × Based (now graph) (length (now work)) (basesOf (now graph)) ⌝ }
+    requires { ⌜ («cyclic_only» ≡ true → Flagged (theoryOf (now graph)) (basesOf (now graph)) (now work)) ⌝ }
+    ensures { λ r. ⌜ Held (theoryOf (now (graph .entry))) (cone (theoryOf (now (graph .entry))) (wantedBy (theoryOf (now (graph .entry))) «cyclic_only»)) (factBy (theoryOf (now (graph .entry))) «cyclic_only») (basesOf (now (graph .entry))) (now (work .exit)) r × Kept (basesOf (now (graph .entry))) (now (work .entry)) (now (work .exit)) ⌝ }
+{
+    find_in(graph, work, area::bases_of(graph), cyclic_only)
 }
 
 // Whether a node is absorbed and in the body cone.
@@ -193,7 +202,7 @@ pub fn body_cone(graph: &[u16], work: &mut [u16], b: Bases) -> Coned
     requires { ⌜ Accepted edition1 (now graph) × Based (now graph) (length (now work)) b ⌝ }
     ensures { λ r. ⌜ Kept b (now (work .entry)) (now (work .exit)) × bodyConed (theoryOf (now (graph .entry))) b (now (work .exit)) r ⌝ }
 {
-    let c = find(graph, work, b, false);
+    let c = find(graph, work, false);
     refuse(graph, work, b, c.nodes)
 }
 
@@ -202,5 +211,5 @@ pub fn cyclic_cone(graph: &[u16], work: &mut [u16], b: Bases) -> Cone
     requires { ⌜ Accepted edition1 (now graph) × Based (now graph) (length (now work)) b × Flagged (theoryOf (now graph)) b (now work) ⌝ }
     ensures { λ r. ⌜ Kept b (now (work .entry)) (now (work .exit)) × cyclicConed (theoryOf (now (graph .entry))) b (now (work .exit)) r ⌝ }
 {
-    find(graph, work, b, true)
+    find(graph, work, true)
 }

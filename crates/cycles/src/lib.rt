@@ -111,7 +111,7 @@ fn cyclic(graph: &[u16], work: &mut [u16]) -> bool
     set_up(graph, work, b);
     count_all(graph, work, b);
     let first = look_all(work, b);
-    let n = events::settle_all(graph, work, b, first);
+    let n = events::settle_all(graph, work, first);
     n < b.atoms + b.nodes
 }
 

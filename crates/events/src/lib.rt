@@ -7,7 +7,7 @@ ghost use Rattle.theory.specs.Words.{theoryOf};
 ghost use Rattle.theory.specs.Accepted.{Accepted, edition1};
 ghost use Rattle.theory.specs.Rows.{flatMap, succs};
 ghost use Rattle.theory.specs.Drive.{Follows, Drives};
-ghost use Rattle.area.specs.Layout.{Based};
+ghost use Rattle.area.specs.Layout.{basesOf, Based};
 ghost use Rattle.adjacency.specs.Tables.{startAt, rowAt};
 ghost use Rattle.events.specs.Held.{Held, shifted, Spanned, Named, Tables};
 ghost use Rattle.events.specs.Run.{Running, Ran};
@@ -121,7 +121,7 @@ fn visit_vertex(graph: &[u16], work: &mut [u16], b: Bases, v: usize, tail: usize
 }
 
 // Every vertex on the queue, in turn: the rows of those that are found on the way too.
-pub fn settle_all(graph: &[u16], work: &mut [u16], b: Bases, first: usize) -> usize
+fn settle_in(graph: &[u16], work: &mut [u16], b: Bases, first: usize) -> usize
     requires { ⌜ Accepted edition1 (now graph) × Based (now graph) (length (now work)) b × Tables (theoryOf (now graph)) b (now work) ⌝ }
     requires { ⌜ ((mode : ℕ → Mode) × Running (now graph) b mode (now work) 0 first) ⌝ }
     ensures { λ r. ⌜ Ran (now (graph .entry)) b (now (work .entry)) (now (work .exit)) 0 first r r ⌝ }
@@ -134,4 +134,13 @@ pub fn settle_all(graph: &[u16], work: &mut [u16], b: Bases, first: usize) -> us
         head += 1;
     }
     tail
+}
+
+// The same, with the bases worked out here (`area::bases_of` says why).
+pub fn settle_all(graph: &[u16], work: &mut [u16], first: usize) -> usize
+    requires { ⌜ Accepted edition1 (now graph) × Based (now graph) (length (now work)) (basesOf (now graph)) × Tables (theoryOf (now graph)) (basesOf (now graph)) (now work) ⌝ }
+    requires { ⌜ ((mode : ℕ → Mode) × Running (now graph) (basesOf (now graph)) mode (now work) 0 first) ⌝ }
+    ensures { λ r. ⌜ Ran (now (graph .entry)) (basesOf (now (graph .entry))) (now (work .entry)) (now (work .exit)) 0 first r r ⌝ }
+{
+    settle_in(graph, work, area::bases_of(graph), first)
 }

@@ -4,7 +4,7 @@ ghost use Prim.Native.Nat.{_+_, _<_};
 ghost use lib.ListN.{length, replicate};
 ghost use Rattle.theory.specs.Words.{bitAt};
 ghost use Rattle.theory.specs.Accepted.{Accepted, edition1};
-ghost use Rattle.area.specs.Layout.{Based};
+ghost use Rattle.area.specs.Layout.{basesOf, Based};
 ghost use Rattle.preparation.specs.Flags.{Marked, Listed};
 ghost use Rattle.preparation.specs.Stages.{Rowed, Onward, Marking, Staged, Passing};
 use adjacency::Table;
@@ -49,7 +49,7 @@ fn walk(graph: &[u16], work: &mut [u16], b: Bases)
 }
 
 // Row tables, body cone and cyclic atoms.
-fn mark(graph: &[u16], work: &mut [u16], b: Bases) -> Marks
+fn mark_in(graph: &[u16], work: &mut [u16], b: Bases) -> Marks
     requires { ⌜ Accepted edition1 (now graph) × Based (now graph) (length (now work)) b ⌝ }
     ensures { λ r. ⌜ Staged (now (graph .entry)) b (now (work .entry)) (now (work .exit)) r ⌝ }
 {
@@ -63,12 +63,20 @@ fn mark(graph: &[u16], work: &mut [u16], b: Bases) -> Marks
     }
 }
 
+// The same, with the bases worked out here (`area::bases_of` says why).
+fn mark(graph: &[u16], work: &mut [u16]) -> Marks
+    requires { ⌜ Accepted edition1 (now graph) × Based (now graph) (length (now work)) (basesOf (now graph)) ⌝ }
+    ensures { λ r. ⌜ Staged (now (graph .entry)) (basesOf (now (graph .entry))) (now (work .entry)) (now (work .exit)) r ⌝ }
+{
+    mark_in(graph, work, area::bases_of(graph))
+}
+
 // The cyclic atoms, flagged.
 pub fn cyclic_atoms(graph: &[u16], work: &mut [u16], b: Bases) -> Marks
     requires { ⌜ Accepted edition1 (now graph) × Based (now graph) (length (now work)) b ⌝ }
     ensures { λ r. ⌜ Marked (now (graph .entry)) b (now (work .entry)) (now (work .exit)) r ⌝ }
 {
-    mark(graph, work, b)
+    mark(graph, work)
 }
 
 // The pass: what is founded is settled.
@@ -78,7 +86,7 @@ fn pass(graph: &[u16], never: &[u64], atom_never: &[u64], work: &mut [u16], b: B
 {
     let c = cones::cyclic_cone(graph, work, b);
     let first = initialization::start(graph, never, atom_never, work, b, c.nodes, c.facts);
-    events::settle_all(graph, work, b, first);
+    events::settle_all(graph, work, first);
 }
 
 // The missing atoms, flagged where their counts were.
@@ -92,7 +100,7 @@ pub fn missing(
     requires { ⌜ Accepted edition1 (now graph) × Based (now graph) (length (now work)) b ⌝ }
     ensures { λ r. ⌜ Listed (now (graph .entry)) (bitAt (now (never .entry))) (bitAt (now («atom_never» .entry))) b (now (work .entry)) (now (work .exit)) r ⌝ }
 {
-    match mark(graph, work, b) {
+    match mark(graph, work) {
         Marks::Absorbed(n) => Marks::Absorbed(n),
         Marks::Done => {
             pass(graph, never, atom_never, work, b);

@@ -1,5 +1,6 @@
 use mathlib.Core.Path.{refl}
 use native.Mathlib.Omega.{arith}
+use Rattle.area.specs.Layout.{layOut}
 use borrow.Author.Needs.{needs}
 use Rattle.area.proofs.lay_out.Statement.{statement}
 use Rattle.area.proofs.lay_out.Tie as tie
@@ -74,6 +75,7 @@ add-t17 : tie.Need-add-t17
 add-t17 c = search needs
 
 returns : tie.Need-returns
+unfolding layOut
 returns c = record {
   laid = omega arith;
   atoms-are = refl;
@@ -82,6 +84,7 @@ returns c = record {
   leaves-are = refl;
   heads-are = refl;
   ends = omega arith;
+  is = refl;
 }
 
 pub lay-out-spec : {M : Type 1} → statement M

@@ -1,3 +1,4 @@
+use mathlib.Core.Path.{sym}
 use Rattle.theory.specs.Founded.{cyclicCone}
 use Rattle.cones.specs.Cones.{picked}
 use borrow.Author.Needs.{needs}
@@ -7,7 +8,7 @@ use Rattle.cones.proofs.cyclic_cone.Tie as tie
 find-requires : tie.Need-find-requires
 find-requires c κs =
     let c-pre = c .before .before .before .pre in
-    ((c-pre .0, c-pre .1), λ e. c-pre .2)
+    ((c-pre .0, rw (sym (c-pre .1 .is)) (c-pre .1)), λ e. rw (sym (c-pre .1 .is)) (c-pre .2))
 
 same-length : tie.Need-same-length
 same-length c = search needs
@@ -16,7 +17,9 @@ returns : tie.Need-returns
 unfolding cyclicCone picked
 returns c =
     let c-find = c .before .before .find in
-    (c-find .ensures .1, c-find .ensures .0)
+    let c-pre = c .before .before .before .before .before .before .pre in
+    let f = rw (sym (c-pre .1 .is)) at (c-find .ensures) in
+    (f .1, f .0)
 
 pub cyclic-cone-spec : {M : Type 1} → statement M
 cyclic-cone-spec = tie.close (tie.spec find-requires same-length returns)

@@ -1,4 +1,4 @@
-use mathlib.Core.Path.{_≡_}
+use mathlib.Core.Path.{_≡_, sym}
 use native.Mathlib.Omega.{arith}
 use denote.Ref.{now}
 use lib.ListN.{length}
@@ -36,7 +36,7 @@ settle-all-requires c κs =
     let c-pre = p3 .pre in
     let ws = now (p3 .args .graph) in
     let e : length (c-look-all .last .0) ≡ 32768 = omega (arith, c-look-all .ensures .size) in
-    ((c-pre .0, rw e (c-bases-of .ensures), tables-looked ws (c-count-all .ensures) (c-look-all .ensures)), (_, running ws (c-count-all .ensures) (c-look-all .ensures)))
+    rw (sym (c-bases-of .ensures .is)) ((c-pre .0, rw e (c-bases-of .ensures), tables-looked ws (c-count-all .ensures) (c-look-all .ensures)), (_, running ws (c-count-all .ensures) (c-look-all .ensures)))
 
 add-result : tie.Need-add-result
 add-result c =
@@ -53,8 +53,10 @@ returns c =
     let p1 = c .before .before .before .before .before .before .before in
     let c-look-all = p1 .look-all in
     let c-count-all = p1 .before .before .before .before .count-all in
+    let p2 = p1 .before .before .before .before .before .before .before .before .before .before in
+    let c-bases-of = p2 .bases-of in
     let ws = now (c .before .before .before .before .before .before .before .before .before .before .before .before .before .before .before .before .before .before .before .before .args .graph) in
-    answer ws (c-count-all .ensures) (c-look-all .ensures) (c-settle-all .ensures)
+    answer ws (c-count-all .ensures) (c-look-all .ensures) (rw (sym (c-bases-of .ensures .is)) at (c-settle-all .ensures))
 
 pub cyclic-spec : {M : Type 1} → statement M
 cyclic-spec =

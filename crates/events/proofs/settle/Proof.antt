@@ -4,10 +4,6 @@ use Rattle.events.proofs.SettleLaws.{one-of, ready, settle-wait, settle
 use borrow.Author.Needs.{needs}
 use Rattle.events.proofs.settle.Statement.{statement}
 use Rattle.events.proofs.settle.Tie as tie
-use Rattle.events.proofs.settle.Reads as reads
-use Rattle.events.proofs.settle.Lts as lts
-use Rattle.area.proofs.put.Reads as put-reads
-use Rattle.graph.proofs.at.Reads as at-reads
 
 add-at : tie.Need-add-at
 add-at c =

@@ -12,12 +12,6 @@ use Rattle.events.specs.Held.{Held}
 use borrow.Author.Needs.{needs}
 use Rattle.events.proofs.visit_heads.Statement.{statement}
 use Rattle.events.proofs.visit_heads.Tie as tie
-use Rattle.events.proofs.visit_heads.Reads as reads
-use Rattle.events.proofs.visit_heads.Lts as lts
-use Rattle.events.proofs.settle.Reads as settle-reads
-use Rattle.graph.proofs.first_head.Reads as first-head-reads
-use Rattle.graph.proofs.next.Reads as next-reads
-use Rattle.graph.proofs.value.Reads as value-reads
 
 abbrev Inv-loop : tie.InvT-loop
 Inv-loop graph work₀ b p tail links t₀ l₀ work t l = Ending graph l × Drives (Held 65536 b) (b .states) work₀ tail (theoryOf graph .heads p) work t (chain graph l)

@@ -9,10 +9,6 @@ use Rattle.events.proofs.SettleLaws.{ready, tables-long}
 use borrow.Author.Needs.{needs}
 use Rattle.events.proofs.visit_nodes.Statement.{statement}
 use Rattle.events.proofs.visit_nodes.Tie as tie
-use Rattle.events.proofs.visit_nodes.Reads as reads
-use Rattle.events.proofs.visit_nodes.Lts as lts
-use Rattle.events.proofs.settle.Reads as settle-reads
-use Rattle.graph.proofs.at.Reads as at-reads
 
 abbrev Inv-loop : tie.InvT-loop
 Inv-loop work₀ b from to tail t₀ i₀ work t i = (i ≤ to) × Drives (Held 65536 b) (b .states) work₀ tail (shifted b (slice from to work₀)) work t (shifted b (slice i to work₀))

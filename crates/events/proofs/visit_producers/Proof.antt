@@ -12,10 +12,6 @@ use Rattle.events.proofs.SettleLaws.{tables-long}
 use borrow.Author.Needs.{needs}
 use Rattle.events.proofs.visit_producers.Statement.{statement}
 use Rattle.events.proofs.visit_producers.Tie as tie
-use Rattle.events.proofs.visit_producers.Reads as reads
-use Rattle.events.proofs.visit_producers.Lts as lts
-use Rattle.events.proofs.visit_heads.Reads as visit-heads-reads
-use Rattle.graph.proofs.at.Reads as at-reads
 
 abbrev Inv-loop : tie.InvT-loop
 Inv-loop graph work₀ b from to tail t₀ i₀ work t i = (from ≤ i) × (i ≤ to) × Drives (Held 65536 b) (b .states) work₀ tail (flatMap (theoryOf graph .heads) (slice from to work₀)) work t (flatMap (theoryOf graph .heads) (slice i to work₀))

@@ -2,10 +2,6 @@ use native.Mathlib.Omega.{arith}
 use borrow.Author.Needs.{needs}
 use Rattle.events.proofs.visit_row.Statement.{statement}
 use Rattle.events.proofs.visit_row.Tie as tie
-use Rattle.events.proofs.visit_row.Reads as reads
-use Rattle.events.proofs.visit_row.Lts as lts
-use Rattle.adjacency.proofs.row_start.Reads as row-start-reads
-use Rattle.events.proofs.visit_nodes.Reads as visit-nodes-reads
 
 row-start-requires : tie.Need-row-start-requires
 row-start-requires c κs =

@@ -4,10 +4,6 @@ use Rattle.events.proofs.VertexLaws.{atom-spanned, atom-row, parents-sp
 use borrow.Author.Needs.{needs}
 use Rattle.events.proofs.visit_vertex.Statement.{statement}
 use Rattle.events.proofs.visit_vertex.Tie as tie
-use Rattle.events.proofs.visit_vertex.Reads as reads
-use Rattle.events.proofs.visit_vertex.Lts as lts
-use Rattle.events.proofs.visit_body.Reads as visit-body-reads
-use Rattle.events.proofs.visit_row.Reads as visit-row-reads
 
 visit-row-requires : tie.Need-visit-row-requires
 visit-row-requires c κs =

@@ -2,18 +2,23 @@ use Rattle.preparation.proofs.RowsLaws.{rowed}
 use borrow.Author.Needs.{needs}
 use Rattle.preparation.proofs.build_rows.Statement.{statement}
 use Rattle.preparation.proofs.build_rows.Tie as tie
-use Rattle.preparation.proofs.build_rows.Reads as reads
-use Rattle.preparation.proofs.build_rows.Lts as lts
-use Rattle.adjacency.proofs.build_in.Reads as build-in-reads
 
 build-in-requires : tie.Need-build-in-requires
 build-in-requires c κs = search needs
 
 build-in-requires-2 : tie.Need-build-in-requires-2
-build-in-requires-2 c κs = search needs
+build-in-requires-2 c κs =
+    let c-build-in = c .before .before .before .build-in in
+    let c-pre = c .before .before .before .before .before .before .before .pre in
+    (c-pre .0, rw (c-build-in .ensures .size) (c-pre .1))
 
 build-in-requires-3 : tie.Need-build-in-requires-3
-build-in-requires-3 c κs = search needs
+build-in-requires-3 c κs =
+    let c-build-in2 = c .before .before .before .build-in2 in
+    let p1 = c .before .before .before .before .before .before .before in
+    let c-build-in = p1 .build-in in
+    let c-pre = p1 .before .before .before .before .pre in
+    (c-pre .0, rw (c-build-in2 .ensures .size, c-build-in .ensures .size) (c-pre .1))
 
 build-in-requires-4 : tie.Need-build-in-requires-4
 build-in-requires-4 c κs =

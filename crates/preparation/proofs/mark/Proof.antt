@@ -1,87 +1,24 @@
-use mathlib.Core.Path.{_∙_}
-use native.Mathlib.Omega.{arith}
-use denote.Ref.{now}
-use Rattle.graph.proofs.DecodeLaws.{the-nodes}
-use Rattle.preparation.proofs.StageLaws.{cone-refused, cone-found, onward, staged-refused, staged-done}
 use borrow.Author.Needs.{needs}
 use Rattle.preparation.proofs.mark.Statement.{statement}
 use Rattle.preparation.proofs.mark.Tie as tie
-use Rattle.preparation.proofs.mark.Reads as reads
-use Rattle.preparation.proofs.mark.Lts as lts
-use Rattle.cones.proofs.body_cone.Reads as body-cone-reads
-use Rattle.preparation.proofs.build_rows.Reads as build-rows-reads
-use Rattle.preparation.proofs.walk.Reads as walk-reads
 
-build-rows-requires : tie.Need-build-rows-requires
-build-rows-requires c κs = search needs
+bases-of-requires : tie.Need-bases-of-requires
+bases-of-requires c κs = search needs
 
-body-cone-requires : tie.Need-body-cone-requires
-body-cone-requires c κs = search needs
-
-enum-known-n : tie.Need-enum-known-n
-enum-known-n c = search needs
-
-cast-t12 : tie.Need-cast-t12
-cast-t12 c =
-    let c-n = c .before .n in
-    let p1 = c .before .before .before .before .before in
-    let c-body-cone = p1 .body-cone in
-    let p2 = p1 .before .before .before .before .before .before .before .before in
-    let c-pre = p2 .pre in
-    let c-args = p2 .args in
-    let k = cone-refused _ _ _ (c-body-cone .ensures .1) (c-n .given .1) .0 in omega (arith, c-pre .0 .nodes-few, the-nodes (now (c-args .graph)))
-
-enum-told : tie.Need-enum-told
-enum-told c = search needs
-
-walk-requires : tie.Need-walk-requires
-walk-requires c κs =
-    let c-enum-told = c .before .enum-told in
-    let p1 = c .before .before .before .before .before in
-    let c-body-cone = p1 .body-cone in
-    let p2 = p1 .before .before .before .before in
-    let c-build-rows = p2 .build-rows in
-    let p3 = p2 .before .before .before .before in
-    let c-pre = p3 .pre in
-    (c-pre .0, onward _ _ _ (c-pre .1) (c-build-rows .ensures) (c-body-cone .ensures .0) (cone-found _ _ _ (c-body-cone .ensures .1) (c-enum-told .given .1) .0))
+mark-in-requires : tie.Need-mark-in-requires
+mark-in-requires c κs =
+    let c-bases-of = c .bases-of in
+    let c-pre = c .before .before .before .before .pre in
+    rw (c-bases-of .ensures .is) (c-pre)
 
 same-length : tie.Need-same-length
 same-length c = search needs
 
 returns : tie.Need-returns
 returns c =
-    let c-n = c .before .n in
-    let p1 = c .before .before .before .before .before in
-    let c-body-cone = p1 .body-cone in
-    let p2 = p1 .before .before .before .before in
-    let c-build-rows = p2 .build-rows in
-    staged-refused _ _ _ _ (c-body-cone .ensures .0 .size ∙ c-build-rows .ensures .size) (cone-refused _ _ _ (c-body-cone .ensures .1) (c-n .given .1) .1)
-
-same-length-2 : tie.Need-same-length-2
-same-length-2 c = search needs
-
-returns-2 : tie.Need-returns-2
-returns-2 c =
-    let c-walk = c .before .before .walk in
-    let p1 = c .before .before .before .before in
-    let c-enum-told = p1 .enum-told in
-    let p2 = p1 .before .before .before .before in
-    let c-body-cone = p2 .body-cone in
-    let p3 = p2 .before .before .before .before in
-    let c-build-rows = p3 .build-rows in
-    staged-done _ _ _ _ (c-body-cone .ensures .0 .size ∙ c-build-rows .ensures .size) (cone-found _ _ _ (c-body-cone .ensures .1) (c-enum-told .given .1) .1) (c-walk .ensures)
+    let c-mark-in = c .before .before .mark-in in
+    let c-bases-of = c .before .before .before .bases-of in
+    rw (c-bases-of .ensures .is) at (c-mark-in .ensures)
 
 pub mark-spec : {M : Type 1} → statement M
-mark-spec =
-    tie.close
-    (tie.spec
-    build-rows-requires
-    body-cone-requires
-    enum-known-n
-    cast-t12
-    enum-told
-    walk-requires
-    same-length
-    returns
-    same-length-2
-    returns-2)
+mark-spec = tie.close (tie.spec bases-of-requires mark-in-requires same-length returns)

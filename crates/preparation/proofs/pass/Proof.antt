@@ -1,13 +1,9 @@
+use mathlib.Core.Path.{sym}
 use native.Mathlib.Omega.{arith}
 use Rattle.preparation.proofs.PassLaws.{cone-flags, start-prepared, based₂, tables₂, running₂, passing₃}
 use borrow.Author.Needs.{needs}
 use Rattle.preparation.proofs.pass.Statement.{statement}
 use Rattle.preparation.proofs.pass.Tie as tie
-use Rattle.preparation.proofs.pass.Reads as reads
-use Rattle.preparation.proofs.pass.Lts as lts
-use Rattle.cones.proofs.cyclic_cone.Reads as cyclic-cone-reads
-use Rattle.events.proofs.settle_all.Reads as settle-all-reads
-use Rattle.initialization.proofs.start.Reads as start-reads
 
 cyclic-cone-requires : tie.Need-cyclic-cone-requires
 cyclic-cone-requires c κs =
@@ -29,7 +25,7 @@ settle-all-requires c κs =
     let c-cyclic-cone = p1 .cyclic-cone in
     let p2 = p1 .before .before .before .before .before .before in
     let c-pre = p2 .pre in
-    ((c-pre .0, based₂ (c-pre .0) (c-pre .1) (c-pre .2) (c-cyclic-cone .ensures .0) (c-cyclic-cone .ensures .1) (c-start .ensures), tables₂ (c-pre .0) (c-pre .1) (c-pre .2) (c-cyclic-cone .ensures .0) (c-cyclic-cone .ensures .1) (c-start .ensures)), (_, running₂ (c-pre .0) (c-pre .1) (c-pre .2) (c-cyclic-cone .ensures .0) (c-cyclic-cone .ensures .1) (c-start .ensures) (omega (arith, c-pre .0 .atoms-few, c-pre .0 .nodes-few, c-pre .1 .atoms, c-pre .1 .nodes))))
+    rw (sym (c-pre .1 .is)) ((c-pre .0, based₂ (c-pre .0) (c-pre .1) (c-pre .2) (c-cyclic-cone .ensures .0) (c-cyclic-cone .ensures .1) (c-start .ensures), tables₂ (c-pre .0) (c-pre .1) (c-pre .2) (c-cyclic-cone .ensures .0) (c-cyclic-cone .ensures .1) (c-start .ensures)), (_, running₂ (c-pre .0) (c-pre .1) (c-pre .2) (c-cyclic-cone .ensures .0) (c-cyclic-cone .ensures .1) (c-start .ensures) (omega (arith, c-pre .0 .atoms-few, c-pre .0 .nodes-few, c-pre .1 .atoms, c-pre .1 .nodes))))
 
 same-length : tie.Need-same-length
 same-length c = search needs
@@ -43,7 +39,7 @@ returns c =
     let c-cyclic-cone = p2 .cyclic-cone in
     let p3 = p2 .before .before .before .before .before .before in
     let c-pre = p3 .pre in
-    passing₃ (c-pre .0) (c-pre .1) (c-pre .2) (c-cyclic-cone .ensures .0) (c-cyclic-cone .ensures .1) (c-start .ensures) (omega (arith, c-pre .0 .atoms-few, c-pre .0 .nodes-few, c-pre .1 .atoms, c-pre .1 .nodes)) (c-settle-all .ensures)
+    passing₃ (c-pre .0) (c-pre .1) (c-pre .2) (c-cyclic-cone .ensures .0) (c-cyclic-cone .ensures .1) (c-start .ensures) (omega (arith, c-pre .0 .atoms-few, c-pre .0 .nodes-few, c-pre .1 .atoms, c-pre .1 .nodes)) (rw (sym (c-pre .1 .is)) at (c-settle-all .ensures))
 
 pub pass-spec : {M : Type 1} → statement M
 pass-spec =

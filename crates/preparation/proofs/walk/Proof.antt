@@ -3,10 +3,6 @@ use Rattle.preparation.proofs.WalkLaws.{ready₁, tables₁, marked₁,
 use borrow.Author.Needs.{needs}
 use Rattle.preparation.proofs.walk.Statement.{statement}
 use Rattle.preparation.proofs.walk.Tie as tie
-use Rattle.preparation.proofs.walk.Reads as reads
-use Rattle.preparation.proofs.walk.Lts as lts
-use Rattle.components.proofs.cyclic_atoms.Reads as cyclic-atoms-reads
-use Rattle.preparation.proofs.ones.Reads as ones-reads
 
 add-to : tie.Need-add-to
 add-to c = search needs
