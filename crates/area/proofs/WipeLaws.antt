@@ -1,4 +1,4 @@
--- Words that give 0 under `|` are 0, so a block of which they all do is (`blank-more`, `blank-block`); and a part that is cleared behind words that are 0
+-- Words that give 0 under `|` are 0, and so are all of a block that do (`blank-more`, `all-blank`); and a part that is cleared behind words that are 0
 -- (`wiped-part`).
 use mathlib.Core.Path.{_≡_, refl, sym, ap, _∙_, subst}
 use mathlib.Core.List.{List, _++_, append-assoc}
@@ -12,26 +12,19 @@ use lib.Seq.{ext-getD, take-at}
 or-none : (a b : ℕ) → bitOr a b ≡ 0 → (a ≡ 0) × (b ≡ 0)
 or-none a b e = (omega (arith, or-add-and a b, and-le-r a b, e), omega (arith, or-add-and a b, and-le-l a b, e))
 
--- the words before i, and as many from 512 on
+-- the words before i
 abbrev pub BlankTo : List ℕ → (all i : ℕ) → Type 0
-BlankTo w all i = all ≡ 0 → (j : ℕ) → j < i → (getD w j 0 ≡ 0) × (getD w (j + 512) 0 ≡ 0)
+BlankTo w all i = all ≡ 0 → (j : ℕ) → j < i → getD w j 0 ≡ 0
 
-pub blank-more : (w : List ℕ) (all i : ℕ) → BlankTo w all i → BlankTo w (bitOr all (bitOr (getD w i 0) (getD w (i + 512) 0))) (i + 1)
+pub blank-more : (w : List ℕ) (all i : ℕ) → BlankTo w all i → BlankTo w (bitOr all (getD w i 0)) (i + 1)
 blank-more w all i so e j h = go (decLt j i)
   where
-    o : (all ≡ 0) × (bitOr (getD w i 0) (getD w (i + 512) 0) ≡ 0)
-    o = or-none all (bitOr (getD w i 0) (getD w (i + 512) 0)) e
+    go : Dec (j < i) → getD w j 0 ≡ 0
+    go (yes l) = so (or-none all (getD w i 0) e .0) j l
+    go (no l) = let same : i ≡ j = omega arith in subst (λ (k : ℕ). getD w k 0 ≡ 0) same (or-none all (getD w i 0) e .1)
 
-    go : Dec (j < i) → (getD w j 0 ≡ 0) × (getD w (j + 512) 0 ≡ 0)
-    go (yes l) = so (o .0) j l
-    go (no l) = let same : i ≡ j = omega arith in subst (λ (k : ℕ). (getD w k 0 ≡ 0) × (getD w (k + 512) 0 ≡ 0)) same (or-none (getD w i 0) (getD w (i + 512) 0) (o .1))
-
-pub blank-block : (w : List ℕ) → length w ≡ 1024 → BlankTo w 0 512 → w ≡ replicate (length w) 0
-blank-block w size so = ext-getD 0 w (replicate (length w) 0) (sym (length-replicate {A = ℕ} (length w) 0)) (λ i l. go i (omega arith) (decLt i 512) ∙ sym (getD-replicate (length w) i 0 0 l))
-  where
-    go : (i : ℕ) → i < 1024 → Dec (i < 512) → getD w i 0 ≡ 0
-    go i l (yes h) = so refl i h .0
-    go i l (no h) = let e : i - 512 + 512 ≡ i = omega arith in subst (λ (k : ℕ). getD w k 0 ≡ 0) e (so refl (i - 512) (omega arith) .1)
+pub all-blank : (w : List ℕ) → BlankTo w 0 (length w) → w ≡ replicate (length w) 0
+all-blank w so = ext-getD 0 w (replicate (length w) 0) (sym (length-replicate {A = ℕ} (length w) 0)) (λ i l. so refl i l ∙ sym (getD-replicate (length w) i 0 0 l))
 
 two-parts : (l p r : List ℕ) (e : ℕ) → length (l ++ p) ≡ e → take e (l ++ (p ++ r)) ≡ l ++ p
 two-parts l p r e h = ap (take e) (sym (append-assoc l p r)) ∙ take-at (l ++ p) r e h

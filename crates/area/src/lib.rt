@@ -24,28 +24,26 @@ pub fn clear(words: &mut [u16])
     }
 }
 
-// Whether a block is all 0; there is no branch on a word of it.
-fn blank(block: &[u16]) -> bool
-    requires { ⌜ length (now block) ≡ 1024 ⌝ }
-    ensures { λ r. ⌜ (r ≡ true → now (block .entry) ≡ replicate (length (now (block .entry))) 0) ⌝ }
+// Whether all words are 0; there is no branch on any of them.
+fn blank(words: &[u16]) -> bool
+    ensures { λ r. ⌜ (r ≡ true → now (words .entry) ≡ replicate (length (now (words .entry))) 0) ⌝ }
 {
     let mut all: u16 = 0;
     let mut j: usize = 0;
-    while j < 512 {
-        all = all | (block[j] | block[j + 512]);
+    while j < words.len() {
+        all = all | words[j];
         j += 1;
     }
     all == 0
 }
 
-fn wipe_block(block: &mut [u16])
-    requires { ⌜ length (now block) ≡ 1024 ⌝ }
-    ensures { λ _. ⌜ now (block .exit) ≡ replicate (length (now (block .entry))) 0 ⌝ }
+fn wipe_block(words: &mut [u16])
+    ensures { λ _. ⌜ now (words .exit) ≡ replicate (length (now (words .entry))) 0 ⌝ }
 {
-    if blank(block) {
+    if blank(words) {
         return;
     }
-    clear(block);
+    clear(words);
 }
 
 // Clears what may be 0 already in most places: a block that is all 0 is read and not written. The work area is larger than the cache next to the
@@ -55,8 +53,8 @@ pub fn wipe(words: &mut [u16])
 {
     let end = words.len();
     let mut from: usize = 0;
-    while end - from >= 1024 {
-        let to = from + 1024;
+    while end - from >= 512 {
+        let to = from + 512;
         wipe_block(&mut words[from..to]);
         from = to;
     }

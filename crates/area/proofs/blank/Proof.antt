@@ -2,35 +2,27 @@ use Prim.Native.Nat.{_-_, _≤_}
 use native.Mathlib.Nat.{not-suc-le-zero}
 use native.Mathlib.Omega.{arith}
 use denote.Ref.{now}
+use lib.ListN.{length}
 use borrow.Author.Tests.{eqb-true}
-use Rattle.area.proofs.WipeLaws.{BlankTo, blank-more, blank-block}
+use Rattle.area.proofs.WipeLaws.{BlankTo, blank-more, all-blank}
 use borrow.Author.Needs.{needs}
 use Rattle.area.proofs.blank.Statement.{statement}
 use Rattle.area.proofs.blank.Tie as tie
 
 abbrev Inv-loop : tie.InvT-loop
-Inv-loop block all₀ j₀ all j = (j ≤ 512) × BlankTo block all j
+Inv-loop words all₀ j₀ all j = (j ≤ length words) × BlankTo words all j
 
 abbrev μ-loop : tie.MeasureT-loop
-μ-loop block all₀ j₀ all j = 512 - j
+μ-loop words all₀ j₀ all j = length words - j
 
 loop-holds : tie.Need-loop-holds Inv-loop μ-loop
-loop-holds c = (omega arith, λ e j h. absurd (not-suc-le-zero h))
+loop-holds c = (omega arith, λ e i h. absurd (not-suc-le-zero h))
 
 mul-all : tie.Need-mul-all Inv-loop μ-loop
 mul-all c = search needs
 
 shared-slice-read-all : tie.Need-shared-slice-read-all Inv-loop μ-loop
 shared-slice-read-all c = search needs
-
-add-all : tie.Need-add-all Inv-loop μ-loop
-add-all c = search needs
-
-mul-all-2 : tie.Need-mul-all-2 Inv-loop μ-loop
-mul-all-2 c = search needs
-
-shared-slice-read-all-2 : tie.Need-shared-slice-read-all-2 Inv-loop μ-loop
-shared-slice-read-all-2 c = search needs
 
 add-j : tie.Need-add-j Inv-loop μ-loop
 add-j c = search needs
@@ -40,30 +32,17 @@ loop-less c = search needs
 
 loop-again : tie.Need-loop-again Inv-loop μ-loop
 loop-again c =
-    let c-loop = c .before .before .before .loop in
-    let c-args = c .before .before .before .before .args in
-    (omega arith, blank-more (now (c-args .block)) (c-loop .all) (c-loop .j) (c-loop .inv .1))
+    let c-loop = c .before .before .loop in
+    let c-args = c .before .before .before .args in
+    (omega arith, blank-more (now (c-args .words)) (c-loop .all) (c-loop .j) (c-loop .inv .1))
 
 returns : tie.Need-returns Inv-loop μ-loop
 returns c =
     let c-loop = c .before .loop in
-    let c-pre = c .before .before .pre in
     let c-args = c .before .before .args in
-    λ yes. blank-block (now (c-args .block)) (c-pre) (λ e i h. c-loop .inv .1 (eqb-true (c-loop .all) 0 yes) i (omega arith))
+    λ yes. all-blank (now (c-args .words)) (λ e i h. c-loop .inv .1 (eqb-true (c-loop .all) 0 yes) i (omega arith))
 
 pub blank-spec : {M : Type 1} → statement M
 blank-spec =
     tie.close
-    (tie.spec
-    Inv-loop
-    μ-loop
-    loop-holds
-    mul-all
-    shared-slice-read-all
-    add-all
-    mul-all-2
-    shared-slice-read-all-2
-    add-j
-    loop-less
-    loop-again
-    returns)
+    (tie.spec Inv-loop μ-loop loop-holds mul-all shared-slice-read-all add-j loop-less loop-again returns)

@@ -48,7 +48,7 @@ loop-again c =
     let c-loop = c .before .before .before .before .before .loop in
     let from = c-loop .from in
     let k = c-loop .inv .2 in
-    let part = wiped-part from (from + 1024) (c-loop .words) (c-wipe-block .last .0) (omega arith) (omega arith) (c-loop .inv .3) (c-wipe-block .ensures) in
+    let part = wiped-part from (from + 512) (c-loop .words) (c-wipe-block .last .0) (omega arith) (omega arith) (c-loop .inv .3) (c-wipe-block .ensures) in
     (omega arith, refl, search needs, part)
 
 mul-clear : tie.Need-mul-clear Inv-loop μ-loop
