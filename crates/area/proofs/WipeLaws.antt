@@ -9,8 +9,8 @@ use lib.Bits.{bitOr, or-add-and, and-le-l, and-le-r}
 use lib.ListN.{length, getD, take, drop, replicate, length-replicate, length-append, length-take, length-drop, getD-replicate, replicate-append-replicate}
 use lib.Seq.{ext-getD, take-at}
 
-or-none : (a b : ℕ) → bitOr a b ≡ 0 → (a ≡ 0) × (b ≡ 0)
-or-none a b e = (omega (arith, or-add-and a b, and-le-r a b, e), omega (arith, or-add-and a b, and-le-l a b, e))
+or-zero : (a b : ℕ) → bitOr a b ≡ 0 → (a ≡ 0) × (b ≡ 0)
+or-zero a b e = (omega (arith, or-add-and a b, and-le-r a b, e), omega (arith, or-add-and a b, and-le-l a b, e))
 
 -- the words before i
 abbrev pub BlankTo : List ℕ → (all i : ℕ) → Type 0
@@ -20,8 +20,8 @@ pub blank-more : (w : List ℕ) (all i : ℕ) → BlankTo w all i → BlankTo w 
 blank-more w all i so e j h = go (decLt j i)
   where
     go : Dec (j < i) → getD w j 0 ≡ 0
-    go (yes l) = so (or-none all (getD w i 0) e .0) j l
-    go (no l) = let same : i ≡ j = omega arith in subst (λ (k : ℕ). getD w k 0 ≡ 0) same (or-none all (getD w i 0) e .1)
+    go (yes l) = so (or-zero all (getD w i 0) e .0) j l
+    go (no l) = let same : i ≡ j = omega arith in subst (λ (k : ℕ). getD w k 0 ≡ 0) same (or-zero all (getD w i 0) e .1)
 
 pub all-blank : (w : List ℕ) → BlankTo w 0 (length w) → w ≡ replicate (length w) 0
 all-blank w so = ext-getD 0 w (replicate (length w) 0) (sym (length-replicate {A = ℕ} (length w) 0)) (λ i l. so refl i l ∙ sym (getD-replicate (length w) i 0 0 l))
