@@ -1,9 +1,9 @@
--- The first cursor of a vertex leaves its predecessors (`first-all`); a cursor leaves nothing, or an entry and what the next cursor leaves (`row-end`,
+-- The first cursor of a vertex leaves its predecessors (`first-all`); a cursor leaves nothing, or a vertex and what the next cursor leaves (`row-end`,
 -- `row-next`, `links-end`, `operand-next`, `link-next`).
 use mathlib.Core.Path.{_≡_, refl, sym, ap, ap₂, _∙_, subst}
 use mathlib.Core.Logic.{_⊎_, inl, inr, _≢_}
 use mathlib.Core.Bool.{Bool, true, false, cond}
-use mathlib.Core.List.{List, [], _∷_, _++_, map, map-append, append-assoc}
+use mathlib.Core.List.{List, [], _∷_, _++_, map, append-assoc}
 use Prim.Native.Nat.{ℕ, zero, suc, _+_, _-_, _≤_, _<_}
 use native.Mathlib.Omega.{arith}
 use native.Mathlib.Numerals.{add-one}
@@ -15,7 +15,7 @@ use lib.Seq.{drop-cons}
 use Rattle.theory.specs.Sets.{Is}
 use Rattle.theory.specs.Theory.{Kind, False, Atom, And, Or, Opaque, Absorbed, joins}
 use Rattle.theory.specs.Words.{kindOf, nodeAt, valueOf, nextOf, chain, Ending, theoryOf}
-use Rattle.theory.specs.Rows.{entries, stream, flatMap, bodyKeys}
+use Rattle.theory.specs.Rows.{entries, stream, flatMap}
 use Rattle.theory.specs.Edges.{vertices, occurrences, bodyEntries, bodiesBelow, inputs, bodyCone, inGraph, conePreds}
 use Rattle.theory.specs.Accepted.{Edition, Accepted}
 use Rattle.theory.proofs.SetLaws.{bool-cases}
@@ -28,64 +28,51 @@ use Rattle.graph.specs.Layout.{NodeIn}
 use Rattle.graph.proofs.DecodeLaws.{the-nodes, the-kind, the-leaves}
 use Rattle.adjacency.specs.Tables.{edgesOf}
 use Rattle.adjacency.specs.declared.Table.the-variants.{ByHead}
-use Rattle.finishing.specs.Cursors.{named, bodyEntry, atomLeft, hasOperand, nodeLeft, nodeFirst, leftOf, firstOf, Linked}
+use Rattle.finishing.specs.Cursors.{bodyVertex, atomLeft, hasOperand, nodeLeft, nodeFirst, leftOf, firstOf, Linked}
 
--- ---- the vertices among entries
+-- ---- the row of an atom
 
-named-append : (s t : List ℕ) → named (s ++ t) ≡ named s ++ named t
+flat-append : (f : ℕ → List ℕ) (s t : List ℕ) → flatMap f (s ++ t) ≡ flatMap f s ++ flatMap f t
 unfolding flatMap
-named-append [] t = refl
-named-append (x ∷ s) t = ap (λ (l : List ℕ). bodyKeys x ++ l) (named-append s t) ∙ sym (append-assoc (bodyKeys x) (named s) (named t))
+flat-append f [] t = refl
+flat-append f (x ∷ s) t = ap (λ (l : List ℕ). f x ++ l) (flat-append f s t) ∙ sym (append-assoc (f x) (flatMap f s) (flatMap f t))
 
-named-shift : (a : ℕ) (l : List ℕ) → named (map (λ m. suc (a + m)) l) ≡ map (λ m. a + m) l
-unfolding flatMap bodyKeys
-named-shift a [] = refl
-named-shift a (x ∷ l) = ap (λ (k : List ℕ). (a + x) ∷ k) (named-shift a l)
-
-occurrences-map : (f : ℕ → ℕ) (x a : ℕ) (hs : List ℕ) → map f (occurrences x a hs) ≡ occurrences (f x) a hs
-unfolding occurrences
-occurrences-map f x a [] = refl
-occurrences-map f x a (h ∷ hs) = go (eqb a h) (occurrences-map f x a hs)
+-- what f gives, once for each occurrence of a
+flat-none : (f : ℕ → List ℕ) (p a : ℕ) (hs : List ℕ) → f p ≡ [] → flatMap f (occurrences p a hs) ≡ []
+unfolding occurrences flatMap
+flat-none f p a [] e = refl
+flat-none f p a (h ∷ hs) e = go (eqb a h) (flat-none f p a hs e)
   where
-    go : (t : Bool) → map f (occurrences x a hs) ≡ occurrences (f x) a hs → map f (cond t (x ∷ occurrences x a hs) (occurrences x a hs)) ≡ cond t (f x ∷ occurrences (f x) a hs) (occurrences (f x) a hs)
-    go true r = ap (λ (l : List ℕ). f x ∷ l) r
+    go : (t : Bool) → flatMap f (occurrences p a hs) ≡ [] → flatMap f (cond t (p ∷ occurrences p a hs) (occurrences p a hs)) ≡ []
+    go true r = ap₂ (λ (s t : List ℕ). s ++ t) e r
     go false r = r
 
-occurrences-fact : (a : ℕ) (hs : List ℕ) → named (occurrences 0 a hs) ≡ []
-unfolding occurrences flatMap bodyKeys
-occurrences-fact a [] = refl
-occurrences-fact a (h ∷ hs) = go (eqb a h) (occurrences-fact a hs)
+flat-one : (f : ℕ → List ℕ) (p x a : ℕ) (hs : List ℕ) → f p ≡ x ∷ [] → flatMap f (occurrences p a hs) ≡ occurrences x a hs
+unfolding occurrences flatMap
+flat-one f p x a [] e = refl
+flat-one f p x a (h ∷ hs) e = go (eqb a h) (flat-one f p x a hs e)
   where
-    go : (t : Bool) → named (occurrences 0 a hs) ≡ [] → named (cond t (0 ∷ occurrences 0 a hs) (occurrences 0 a hs)) ≡ []
-    go true r = r
-    go false r = r
-
-occurrences-named : (v a : ℕ) (hs : List ℕ) → named (occurrences (suc v) a hs) ≡ occurrences v a hs
-unfolding occurrences flatMap bodyKeys
-occurrences-named v a [] = refl
-occurrences-named v a (h ∷ hs) = go (eqb a h) (occurrences-named v a hs)
-  where
-    go : (t : Bool) → named (occurrences (suc v) a hs) ≡ occurrences v a hs → named (cond t (suc v ∷ occurrences (suc v) a hs) (occurrences (suc v) a hs)) ≡ cond t (v ∷ occurrences v a hs) (occurrences v a hs)
-    go true r = ap (λ (l : List ℕ). v ∷ l) r
+    go : (t : Bool) → flatMap f (occurrences p a hs) ≡ occurrences x a hs → flatMap f (cond t (p ∷ occurrences p a hs) (occurrences p a hs)) ≡ cond t (x ∷ occurrences x a hs) (occurrences x a hs)
+    go true r = ap₂ (λ (s t : List ℕ). s ++ t) e r
     go false r = r
 
 module _ (ws : List ℕ) where
+  -- the vertex of a producer's body
+  abbrev bodyAt : ℕ → List ℕ
+  bodyAt p = bodyVertex ws (theoryOf ws .body p)
+
   -- the row of an atom lists the bodies of the producers with that head
-  bodies-row : (a r : ℕ) → named (map (λ p. bodyEntry ws (theoryOf ws .body p)) (entries a (stream (theoryOf ws .heads) 0 r))) ≡ bodiesBelow (theoryOf ws) a r
-  unfolding stream entries flatMap bodiesBelow bodyEntry bodyEntries
+  bodies-row : (a r : ℕ) → flatMap (λ p. bodyAt p) (entries a (stream (theoryOf ws .heads) 0 r)) ≡ bodiesBelow (theoryOf ws) a r
+  unfolding stream entries flatMap bodiesBelow bodyVertex bodyEntries
   bodies-row a zero = refl
   bodies-row a (suc r) =
-      ap (λ (l : List ℕ). named (map entry l)) (row-last (theoryOf ws .heads) r a)
-      ∙ ap named (map-append entry (entries a (stream (theoryOf ws .heads) 0 r)) (occurrences r a (theoryOf ws .heads r)))
-      ∙ named-append (map entry (entries a (stream (theoryOf ws .heads) 0 r))) (map entry (occurrences r a (theoryOf ws .heads r)))
-      ∙ ap₂ (λ (s t : List ℕ). s ++ t) (bodies-row a r) (ap named (occurrences-map entry r a (theoryOf ws .heads r)) ∙ last (theoryOf ws .body r) (theoryOf ws .heads r))
+      ap (λ (l : List ℕ). flatMap (λ p. bodyAt p) l) (row-last (theoryOf ws .heads) r a)
+      ∙ flat-append (λ p. bodyAt p) (entries a (stream (theoryOf ws .heads) 0 r)) (occurrences r a (theoryOf ws .heads r))
+      ∙ ap₂ (λ (s t : List ℕ). s ++ t) (bodies-row a r) (last (theoryOf ws .body r) refl)
     where
-      entry : ℕ → ℕ
-      entry p = bodyEntry ws (theoryOf ws .body p)
-
-      last : (k : ℕ) (hs : List ℕ) → named (occurrences (bodyEntry ws k) a hs) ≡ bodyEntries (theoryOf ws) a k hs
-      last zero hs = occurrences-fact a hs
-      last (suc n) hs = occurrences-named (theoryOf ws .atoms + n) a hs
+      last : (k : ℕ) → theoryOf ws .body r ≡ k → flatMap (λ p. bodyAt p) (occurrences r a (theoryOf ws .heads r)) ≡ bodyEntries (theoryOf ws) a k (theoryOf ws .heads r)
+      last zero e = flat-none (λ p. bodyAt p) r a (theoryOf ws .heads r) (ap (bodyVertex ws) e)
+      last (suc n) e = flat-one (λ p. bodyAt p) r (theoryOf ws .atoms + n) a (theoryOf ws .heads r) (ap (bodyVertex ws) e)
 
   -- ---- an atom or a node
 
@@ -109,17 +96,17 @@ module _ (ws : List ℕ) where
 
   module _ (a c : ℕ) (low : a < theoryOf ws .atoms) where
     pub row-end : length (entries a (edgesOf (theoryOf ws) ByHead)) ≤ c → leftOf ws a c ≡ []
-    unfolding atomLeft
-    row-end h = left-atom a c low ∙ ap (map (λ p. bodyEntry ws (theoryOf ws .body p))) (drop-of-length-le (entries a (edgesOf (theoryOf ws) ByHead)) h)
+    unfolding atomLeft flatMap
+    row-end h = left-atom a c low ∙ ap (flatMap (λ p. bodyAt p)) (drop-of-length-le (entries a (edgesOf (theoryOf ws) ByHead)) h)
 
     pub row-next : {p : ℕ} → c < length (entries a (edgesOf (theoryOf ws) ByHead)) → p ≡ getD (entries a (edgesOf (theoryOf ws) ByHead)) c 0
-        → leftOf ws a c ≡ bodyEntry ws (theoryOf ws .body p) ∷ leftOf ws a (c + 1)
-    unfolding atomLeft
+        → leftOf ws a c ≡ bodyAt p ++ leftOf ws a (c + 1)
+    unfolding atomLeft flatMap
     row-next {p} h e =
         left-atom a c low
-        ∙ ap (map (λ p. bodyEntry ws (theoryOf ws .body p))) (drop-cons (entries a (edgesOf (theoryOf ws) ByHead)) c 0 h)
-        ∙ ap₂ (λ (q i : ℕ). bodyEntry ws (theoryOf ws .body q) ∷ atomLeft ws a i) (sym e) (sym (add-one c))
-        ∙ ap (λ (l : List ℕ). bodyEntry ws (theoryOf ws .body p) ∷ l) (sym (left-atom a (c + 1) low))
+        ∙ ap (flatMap (λ p. bodyAt p)) (drop-cons (entries a (edgesOf (theoryOf ws) ByHead)) c 0 h)
+        ∙ ap₂ (λ (q i : ℕ). bodyAt q ++ atomLeft ws a i) (sym e) (sym (add-one c))
+        ∙ ap (λ (l : List ℕ). bodyAt p ++ l) (sym (left-atom a (c + 1) low))
 
   module _ (v : ℕ) (low : theoryOf ws .atoms ≤ v) {n : ℕ} (e : n ≡ v - theoryOf ws .atoms) where
     pub links-end : (c : ℕ) → c ≡ 0 → leftOf ws v c ≡ []
@@ -128,35 +115,35 @@ module _ (ws : List ℕ) where
       where
         go : (t : Bool) → nodeLeft ws t (v - theoryOf ws .atoms) 0 ≡ []
         go true = refl
-        go false = ap (map (λ m. suc (theoryOf ws .atoms + m))) (chain-end ws)
+        go false = ap (map (λ m. theoryOf ws .atoms + m)) (chain-end ws)
 
     at-node : (c : ℕ) {t : Bool} → hasOperand ws n ≡ t → leftOf ws v c ≡ nodeLeft ws t n c
     at-node c q = left-node v c low ∙ ap (λ (m : ℕ). nodeLeft ws (hasOperand ws m) m c) (sym e) ∙ ap (λ (t : Bool). nodeLeft ws t n c) q
 
-    pub operand-next : (c : ℕ) → c ≢ 0 → hasOperand ws n ≡ true → leftOf ws v c ≡ suc (theoryOf ws .operand n) ∷ leftOf ws v 0
+    pub operand-next : (c : ℕ) → c ≢ 0 → hasOperand ws n ≡ true → leftOf ws v c ≡ theoryOf ws .operand n ∷ leftOf ws v 0
     unfolding nodeLeft
     operand-next c z q =
-        at-node c q ∙ ap (λ (t : Bool). cond t [] (suc (theoryOf ws .operand n) ∷ [])) (ne-eqb c 0 z)
-        ∙ ap (λ (l : List ℕ). suc (theoryOf ws .operand n) ∷ l) (sym (links-end 0 refl))
+        at-node c q ∙ ap (λ (t : Bool). cond t [] (theoryOf ws .operand n ∷ [])) (ne-eqb c 0 z)
+        ∙ ap (λ (l : List ℕ). theoryOf ws .operand n ∷ l) (sym (links-end 0 refl))
 
-    pub link-next : (c : ℕ) → c ≢ 0 → hasOperand ws n ≡ false → Ending ws c → leftOf ws v c ≡ suc (theoryOf ws .atoms + valueOf ws c) ∷ leftOf ws v (nextOf ws c)
+    pub link-next : (c : ℕ) → c ≢ 0 → hasOperand ws n ≡ false → Ending ws c → leftOf ws v c ≡ (theoryOf ws .atoms + valueOf ws c) ∷ leftOf ws v (nextOf ws c)
     unfolding nodeLeft
     link-next c z q h =
-        at-node c q ∙ ap (map (λ m. suc (theoryOf ws .atoms + m))) (chain-step ws h z)
-        ∙ ap (λ (l : List ℕ). suc (theoryOf ws .atoms + valueOf ws c) ∷ l) (sym (at-node (nextOf ws c) q))
+        at-node c q ∙ ap (map (λ m. theoryOf ws .atoms + m)) (chain-step ws h z)
+        ∙ ap (λ (l : List ℕ). (theoryOf ws .atoms + valueOf ws c) ∷ l) (sym (at-node (nextOf ws c) q))
 
   -- ---- the first cursor
 
   module _ {ed : Edition} (acc : Accepted ed ws) where
     -- the leaves
-    some : (n : ℕ) → named (map (λ m. suc (theoryOf ws .atoms + m)) (chain ws (getD ws (nodeAt n + 2) 0))) ≡ map (λ m. theoryOf ws .atoms + m) (theoryOf ws .leaves n)
-    some n = named-shift (theoryOf ws .atoms) (chain ws (getD ws (nodeAt n + 2) 0)) ∙ ap (map (λ m. theoryOf ws .atoms + m)) (sym (the-leaves ws n))
+    some : (n : ℕ) → map (λ m. theoryOf ws .atoms + m) (chain ws (getD ws (nodeAt n + 2) 0)) ≡ map (λ m. theoryOf ws .atoms + m) (theoryOf ws .leaves n)
+    some n = ap (map (λ m. theoryOf ws .atoms + m)) (sym (the-leaves ws n))
 
-    none : (n : ℕ) → n < theoryOf ws .nodes → joins (theoryOf ws .kind n) ≡ false → named (map (λ m. suc (theoryOf ws .atoms + m)) (chain ws (getD ws (nodeAt n + 2) 0))) ≡ []
+    none : (n : ℕ) → n < theoryOf ws .nodes → joins (theoryOf ws .kind n) ≡ false → map (λ m. theoryOf ws .atoms + m) (chain ws (getD ws (nodeAt n + 2) 0)) ≡ []
     none n l j = some n ∙ ap (map (λ m. theoryOf ws .atoms + m)) (acc .leafless n (let e = the-nodes ws in omega arith) j)
 
-    node-all : (n : ℕ) → n < theoryOf ws .nodes → (k : Kind) → theoryOf ws .kind n ≡ k → named (nodeLeft ws (takesOperand k) n (nodeFirst ws (takesOperand k) n)) ≡ inputs (theoryOf ws) k n
-    unfolding nodeLeft nodeFirst takesOperand inputs flatMap bodyKeys joins
+    node-all : (n : ℕ) → n < theoryOf ws .nodes → (k : Kind) → theoryOf ws .kind n ≡ k → nodeLeft ws (takesOperand k) n (nodeFirst ws (takesOperand k) n) ≡ inputs (theoryOf ws) k n
+    unfolding nodeLeft nodeFirst takesOperand inputs joins
     node-all n l False e = none n l (ap joins e)
     node-all n l Atom e = refl
     node-all n l And e = some n
@@ -164,19 +151,19 @@ module _ (ws : List ℕ) where
     node-all n l Opaque e = none n l (ap joins e)
     node-all n l Absorbed e = none n l (ap joins e)
 
-    pub first-all : (v : ℕ) → Is (inGraph (theoryOf ws) v) → named (leftOf ws v (firstOf ws v)) ≡ conePreds (theoryOf ws) v
+    pub first-all : (v : ℕ) → Is (inGraph (theoryOf ws) v) → leftOf ws v (firstOf ws v) ≡ conePreds (theoryOf ws) v
     unfolding atomLeft
     first-all v g = go (decLt v (theoryOf ws .atoms))
       where
-        go : Dec (v < theoryOf ws .atoms) → named (leftOf ws v (firstOf ws v)) ≡ conePreds (theoryOf ws) v
+        go : Dec (v < theoryOf ws .atoms) → leftOf ws v (firstOf ws v) ≡ conePreds (theoryOf ws) v
         go (yes h) =
-            ap (λ (c : ℕ). named (leftOf ws v c)) (first-atom v h) ∙ ap named (left-atom v 0 h) ∙ bodies-row v (theoryOf ws .producers)
+            ap (leftOf ws v) (first-atom v h) ∙ left-atom v 0 h ∙ bodies-row v (theoryOf ws .producers)
             ∙ sym (preds-atom (theoryOf ws) (bodyCone (theoryOf ws)) v h)
         go (no h) =
             let l : theoryOf ws .atoms ≤ v = omega arith in
             let e : theoryOf ws .atoms + (v - theoryOf ws .atoms) ≡ v = omega arith in
             let c = graph-cone (theoryOf ws) v l g in
-            ap (λ (c : ℕ). named (leftOf ws v c)) (first-node v l) ∙ ap named (left-node v _ l) ∙ node-all (v - theoryOf ws .atoms) (c .1) (theoryOf ws .kind (v - theoryOf ws .atoms)) refl
+            ap (leftOf ws v) (first-node v l) ∙ left-node v _ l ∙ node-all (v - theoryOf ws .atoms) (c .1) (theoryOf ws .kind (v - theoryOf ws .atoms)) refl
             ∙ sym (preds-node (theoryOf ws) (bodyCone (theoryOf ws)) (v - theoryOf ws .atoms) (c .1) (c .0)) ∙ ap (conePreds (theoryOf ws)) e
 
     -- a node's vertex v, where there are m atoms

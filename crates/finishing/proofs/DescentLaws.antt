@@ -1,4 +1,5 @@
--- The walk from one root (`root-met`, `descended`), and from every root (`walk-start`, `roots-more`, `walk-end`).
+-- One walk after another (`walked-on`, `onward-step`, `step-onward`); the walk from one root (`root-entered`, `descended`), and from every root
+-- (`walk-start`, `roots-more`, `walk-end`).
 use mathlib.Core.Path.{_≡_, sym, ap, _∙_, subst}
 use mathlib.Core.Logic.{_⊎_, inl, inr, _≢_}
 use mathlib.Core.Bool.{true, false}
@@ -15,27 +16,42 @@ use Rattle.theory.proofs.SetLaws.{bool-cases}
 use Rattle.theory.proofs.SearchLaws.{search-start, search-root, search-end}
 use Rattle.area.specs.declared.Bases.{Bases}
 use Rattle.area.specs.Marks.{markIn}
-use Rattle.finishing.specs.Cursors.{named, leftOf, Linked}
+use Rattle.finishing.specs.Cursors.{leftOf, Linked}
 use Rattle.finishing.specs.Finished.{Ready, Marked, Finished}
-use Rattle.finishing.specs.Walking.{cursorIn, Walking, discovered, Meeting, Met, known, new, Walked, Descended}
+use Rattle.finishing.specs.Walking.{cursorIn, Walking, discovered, Entered, known, new, Walked, Onward, Stepped, Descended}
 use Rattle.finishing.proofs.CursorLaws.{first-all, first-linked}
 use Rattle.finishing.proofs.PlaceLaws.{kept-none, kept-on, ready-kept}
 use Rattle.finishing.proofs.ViewLaws.{cursor-unmet, found-here, found-marks, found-cursors, found-stack, found-order, found-kept}
 use Rattle.finishing.proofs.StepLaws.{relist, done-fits}
 
 module _ {ws : List ℕ} {b : Bases} where
+  -- ---- one walk after another
+
   pub walked-none : {w : List ℕ} {top done : ℕ} → Walking ws b w top done → Walked ws b w w top done
   walked-none h = record { walking = h; kept = kept-none; settled = λ v l n. n }
 
   pub walked-on : {w₀ w w′ : List ℕ} {top done top′ done′ : ℕ} → Walked ws b w₀ w top done → Walked ws b w w′ top′ done′ → Walked ws b w₀ w′ top′ done′
   walked-on p q = record { walking = q .walking; kept = kept-on (p .kept) (q .kept); settled = λ v l n. q .settled v l (p .settled v l n) }
 
+  pub onward-none : {w : List ℕ} {top done : ℕ} → Walking ws b w top done → Onward ws b w w top done done
+  onward-none h = record { walked = walked-none h; least = omega arith }
+
+  pub stepped-onward : {w w′ : List ℕ} {top done done₀ : ℕ} → Stepped ws b w w′ top done done₀ → Onward ws b w w′ top done done₀
+  stepped-onward s = record { walked = s .walked; least = let l = s .less in omega arith }
+
+  module _ {w₀ w w′ : List ℕ} {done₀ top done top′ done′ : ℕ} where
+    pub onward-on : Onward ws b w₀ w top done done₀ → Onward ws b w w′ top′ done′ done → Onward ws b w₀ w′ top′ done′ done₀
+    onward-on p q = record { walked = walked-on (p .walked) (q .walked); least = let l = p .least in let m = q .least in omega arith }
+
+    pub onward-step : Onward ws b w₀ w top done done₀ → Stepped ws b w w′ top′ done′ done → Stepped ws b w₀ w′ top′ done′ done₀
+    onward-step p q = record { walked = walked-on (p .walked) (q .walked); less = let l = p .least in let m = q .less in omega arith }
+
+    pub step-onward : Stepped ws b w₀ w top done done₀ → Onward ws b w w′ top′ done′ done → Stepped ws b w₀ w′ top′ done′ done₀
+    step-onward p q = record { walked = walked-on (p .walked) (q .walked); less = let l = p .less in let m = q .least in omega arith }
+
   -- ---- one root
 
   module _ {w : List ℕ} {done root : ℕ} (h : Walking ws b w 0 done) (low : root < vertices (theoryOf ws)) where
-    pub root-meeting : Meeting ws b w root 0
-    root-meeting = record { ready = h .ready; low = low; room = λ e. omega arith }
-
     module _ (unmet : markIn b w root ≡ 1) where
       room : 0 < vertices (theoryOf ws)
       room = omega arith
@@ -60,7 +76,7 @@ module _ {ws : List ℕ} {b : Bases} where
               relist (found-stack (h .ready) root low 0 room) (found-order (h .ready) root low 0 room done (done-fits h))
               (search-root (h .search) root low inside unmet (found-here (h .ready) root low 0 room)
               (found-marks (h .ready) root low 0 room)
-              (ap (λ (c : ℕ). named (leftOf ws root c)) (same root low ∙ cursor-unmet ws b w root (λ e. omega arith)) ∙ first-all ws acc root inside));
+              (ap (leftOf ws root) (same root low ∙ cursor-unmet ws b w root (λ e. omega arith)) ∙ first-all ws acc root inside));
         };
         kept = found-kept (h .ready) root low 0 room;
         settled = λ u l n q. met u l n q (ℕ-discrete u root);
@@ -71,19 +87,19 @@ module _ {ws : List ℕ} {b : Bases} where
           met u l n q (no m) = n (sym (found-marks (h .ready) root low 0 room u l m) ∙ q)
 
     module _ {ed : Edition} (acc : Accepted ed ws) where
-      -- after `meet`, with t on the stack
-      pub root-met : {w₁ : List ℕ} {t : ℕ} → Met ws b w w₁ root 0 t → Walked ws b w w₁ t done × (markIn b w₁ root ≢ 1)
-      root-met {w₁} {t} (known n e q) =
+      -- with t on the stack then
+      pub root-entered : {w₁ : List ℕ} {t : ℕ} → Entered ws b w w₁ root t → Walked ws b w w₁ t done × (markIn b w₁ root ≢ 1)
+      root-entered {w₁} {t} (known n e q) =
           subst (λ (l : List ℕ). Walked ws b w l t done × (markIn b l root ≢ 1)) (sym e) (subst (λ (k : ℕ). Walked ws b w w k done) (sym q) (walked-none h), n)
-      root-met {w₁} {t} (new m e q) =
+      root-entered {w₁} {t} (new m e q) =
           subst (λ (l : List ℕ). Walked ws b w l t done × (markIn b l root ≢ 1)) (sym e)
           (subst (λ (k : ℕ). Walked ws b w (discovered ws b w root 0) k done) (sym q) (root-new m acc), λ z. let f = found-here (h .ready) root low 0 (omega arith) in omega arith)
 
-      pub descended : {w₁ w′ : List ℕ} {t top n : ℕ} → Met ws b w w₁ root 0 t → Walked ws b w₁ w′ top n → top ≤ 0 → Descended ws b w w′ root n
+      pub descended : {w₁ w′ : List ℕ} {t top n : ℕ} → Entered ws b w w₁ root t → Walked ws b w₁ w′ top n → top ≤ 0 → Descended ws b w w′ root n
       descended {w₁} {w′} {t} {top} {n} m s z =
           let e : top ≡ 0 = omega arith in
           let g = subst (λ (k : ℕ). Walked ws b w₁ w′ k n) e s in
-          let r = root-met m in
+          let r = root-entered m in
           record { walked = walked-on (r .0) g; passed = g .settled root low (r .1) }
 
   -- ---- every root

@@ -1,9 +1,9 @@
--- What a look at the next entry of a vertex finds: of an atom in its row (`atom-done`, `atom-fact`, `atom-body`), of a node its operand or a leaf
--- (`node-done`, `node-operand`, `node-leaf`).
+-- What a look from the cursor of a vertex finds: of an atom in its row (`atom-done`, `atom-body`; a fact leads nowhere, `atom-fact`), of a node its
+-- operand or a leaf (`node-done`, `node-operand`, `node-leaf`).
 use mathlib.Core.Path.{_≡_, refl, sym, ap, ap₂, _∙_, subst}
 use mathlib.Core.Logic.{_≢_}
 use mathlib.Core.Bool.{true, false}
-use mathlib.Core.List.{List, [], _∷_, List·Memᴰ·head, List·Memᴰ·tail}
+use mathlib.Core.List.{List, [], _∷_, _++_, List·Memᴰ·head, List·Memᴰ·tail}
 use Prim.Native.Nat.{ℕ, zero, suc, _+_, _-_, _≤_, _<_}
 use native.Mathlib.Nat.{not-suc-le-zero}
 use native.Mathlib.Omega.{arith}
@@ -22,8 +22,8 @@ use Rattle.graph.proofs.DecodeLaws.{the-nodes, the-producers, the-operand, the-
 use Rattle.area.specs.declared.Bases.{Bases}
 use Rattle.adjacency.specs.Tables.{startAt, edgesOf}
 use Rattle.adjacency.specs.declared.Table.the-variants.{ByHead}
-use Rattle.finishing.specs.declared.Entry.the-variants.{Vertex, Fact, Done}
-use Rattle.finishing.specs.Cursors.{bodyEntry, hasOperand, leftOf, Linked}
+use Rattle.finishing.specs.declared.Entry.the-variants.{Vertex, Done}
+use Rattle.finishing.specs.Cursors.{bodyVertex, hasOperand, leftOf, Linked}
 use Rattle.finishing.specs.Walking.{Looking, Looked}
 use Rattle.finishing.proofs.CursorLaws.{row-end, row-next, links-end, operand-next, link-next}
 use Rattle.finishing.proofs.PlaceLaws.{atoms-are}
@@ -39,6 +39,9 @@ module _ {ed : Edition} {ws : List ℕ} (acc : Accepted ed ws) {b : Bases} {w : 
   module _ (low : v < b .atoms) {c : ℕ} (ec : c ≡ getD w (b .dependencies + v) 0) where
     atom-low : v < theoryOf ws .atoms
     atom-low = let e = atoms-are (k .ready .based) in omega arith
+
+    pub row-linked : (i : ℕ) → Linked ws v i
+    row-linked i x y = absurd (let a = atom-low in omega arith)
 
     start-is : (r : ℕ) → startAt w (b .«by_head») (b .atoms) r ≡ startAt w (b .«by_head») (theoryOf ws .atoms) r
     start-is r = ap (λ (n : ℕ). startAt w (b .«by_head») n r) (atoms-are (k .ready .based))
@@ -61,9 +64,11 @@ module _ {ed : Edition} {ws : List ℕ} (acc : Accepted ed ws) {b : Bases} {w : 
           let l = row-length in
           let e = row-end ws v c atom-low (omega arith) in
           record {
-            cursor = c;
-            stored = sym (ap (set w (b .dependencies + v)) ec ∙ set-getD w (b .dependencies + v) 0);
-            linked = λ x y. absurd (let a = atom-low in omega arith);
+            moved = record {
+              cursor = c;
+              stored = sym (ap (set w (b .dependencies + v)) ec ∙ set-getD w (b .dependencies + v) 0);
+              linked = row-linked c;
+            };
             took = (ap (leftOf ws v) (sym ec) ∙ e, e);
           }
 
@@ -97,10 +102,10 @@ module _ {ed : Edition} {ws : List ℕ} (acc : Accepted ed ws) {b : Bases} {w : 
           producer-in = record { size = acc .size; below = let l = producer-low in let e = the-producers ws in omega arith }
 
           module _ {body : ℕ} (eb : body ≡ getD ws (producerAt ws p) 0) where
-            next-is : {x : ℕ} → bodyEntry ws body ≡ x → leftOf ws v (getD w (b .dependencies + v) 0) ≡ x ∷ leftOf ws v (c + 1)
+            next-is : {l : List ℕ} → bodyVertex ws body ≡ l → leftOf ws v (getD w (b .dependencies + v) 0) ≡ l ++ leftOf ws v (c + 1)
             next-is e =
                 ap (leftOf ws v) (sym ec) ∙ row-next ws v c atom-low shorter producer-is
-                ∙ ap (λ (y : ℕ). y ∷ leftOf ws v (c + 1)) (ap (bodyEntry ws) (the-body ws p ∙ sym eb) ∙ e)
+                ∙ ap (λ (l : List ℕ). l ++ leftOf ws v (c + 1)) (ap (bodyVertex ws) (the-body ws p ∙ sym eb) ∙ e)
 
             pub body-fits : body ≢ 0 → b .atoms + (body - 1) < b .atoms + b .nodes
             body-fits z =
@@ -109,17 +114,17 @@ module _ {ed : Edition} {ws : List ℕ} (acc : Accepted ed ws) {b : Bases} {w : 
                 let f = k .ready .based .nodes in let g = the-nodes ws in
                 omega arith
 
-            pub atom-fact : body ≡ 0 → Looked ws b w (set w (b .dependencies + v) (c + 1)) v Fact
-            unfolding bodyEntry
-            atom-fact z = record { cursor = c + 1; stored = refl; linked = λ x y. absurd (let a = atom-low in omega arith); took = next-is (ap (bodyEntry ws) z) }
+            pub atom-fact : body ≡ 0 → leftOf ws v (getD w (b .dependencies + v) 0) ≡ leftOf ws v (c + 1)
+            unfolding bodyVertex
+            atom-fact z = next-is (ap (bodyVertex ws) z)
 
-            entry-is : (m : ℕ) → m ≢ 0 → bodyEntry ws m ≡ suc (b .atoms + (m - 1))
-            unfolding bodyEntry
-            entry-is zero z = absurd (z refl)
-            entry-is (suc m) z = let e = atoms-are (k .ready .based) in omega arith
+            vertex-is : (m : ℕ) → m ≢ 0 → bodyVertex ws m ≡ (b .atoms + (m - 1)) ∷ []
+            unfolding bodyVertex
+            vertex-is zero z = absurd (z refl)
+            vertex-is (suc m) z = let e : theoryOf ws .atoms + m ≡ b .atoms + (suc m - 1) = let q = atoms-are (k .ready .based) in omega arith in ap (λ (x : ℕ). x ∷ []) e
 
             pub atom-body : body ≢ 0 → Looked ws b w (set w (b .dependencies + v) (c + 1)) v (Vertex (b .atoms + (body - 1)))
-            atom-body z = record { cursor = c + 1; stored = refl; linked = λ x y. absurd (let a = atom-low in omega arith); took = next-is (entry-is body z) }
+            atom-body z = record { moved = record { cursor = c + 1; stored = refl; linked = row-linked (c + 1) }; took = next-is (vertex-is body z) }
 
   -- ---- a node
 
@@ -131,9 +136,11 @@ module _ {ed : Edition} {ws : List ℕ} (acc : Accepted ed ws) {b : Bases} {w : 
     node-done z =
         let e = links-end ws v node-high refl c z in
         record {
-          cursor = c;
-          stored = sym (ap (set w (b .dependencies + v)) ec ∙ set-getD w (b .dependencies + v) 0);
-          linked = subst (Linked ws v) (sym ec) (k .linked);
+          moved = record {
+            cursor = c;
+            stored = sym (ap (set w (b .dependencies + v)) ec ∙ set-getD w (b .dependencies + v) 0);
+            linked = subst (Linked ws v) (sym ec) (k .linked);
+          };
           took = (ap (leftOf ws v) (sym ec) ∙ e, e);
         }
 
@@ -143,10 +150,8 @@ module _ {ed : Edition} {ws : List ℕ} (acc : Accepted ed ws) {b : Bases} {w : 
 
       pub node-operand : hasOperand ws (v - b .atoms) ≡ true → {x : ℕ} → x ≡ getD ws (nodeAt (v - b .atoms) + 1) 0 → Looked ws b w (set w (b .dependencies + v) 0) v (Vertex x)
       node-operand q ex = record {
-        cursor = 0;
-        stored = refl;
-        linked = λ h f. clash q (ap (hasOperand ws) node-is ∙ f);
-        took = ap (leftOf ws v) (sym ec) ∙ operand-next ws v node-high node-is c some q ∙ ap (λ (y : ℕ). suc y ∷ leftOf ws v 0) (the-operand ws (v - b .atoms) ∙ sym ex);
+        moved = record { cursor = 0; stored = refl; linked = λ h f. clash q (ap (hasOperand ws) node-is ∙ f) };
+        took = ap (leftOf ws v) (sym ec) ∙ operand-next ws v node-high node-is c some q ∙ ap (λ (y : ℕ). y ∷ leftOf ws v 0) (the-operand ws (v - b .atoms) ∙ sym ex);
       }
 
       module _ (q : hasOperand ws (v - b .atoms) ≡ false) where
@@ -158,10 +163,8 @@ module _ {ed : Edition} {ws : List ℕ} (acc : Accepted ed ws) {b : Bases} {w : 
 
         pub node-leaf : {y x : ℕ} → y ≡ nextOf ws c → x ≡ valueOf ws c → Looked ws b w (set w (b .dependencies + v) y) v (Vertex (b .atoms + x))
         node-leaf {y} {x} ey ex = record {
-          cursor = y;
-          stored = refl;
-          linked = λ h f. subst (Ending ws) (sym ey) (ending-next ws link-ends some);
+          moved = record { cursor = y; stored = refl; linked = λ h f. subst (Ending ws) (sym ey) (ending-next ws link-ends some) };
           took =
               ap (leftOf ws v) (sym ec) ∙ link-next ws v node-high node-is c some q link-ends
-              ∙ ap₂ (λ (a l : ℕ). suc a ∷ leftOf ws v l) (ap₂ (λ (a l : ℕ). a + l) (sym (atoms-are (k .ready .based))) (sym ex)) (sym ey);
+              ∙ ap₂ (λ (a l : ℕ). a ∷ leftOf ws v l) (ap₂ (λ (a l : ℕ). a + l) (sym (atoms-are (k .ready .based))) (sym ex)) (sym ey);
         }

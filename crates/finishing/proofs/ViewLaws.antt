@@ -164,6 +164,9 @@ module _ {ws : List ℕ} {b : Bases} {w : List ℕ} (ready : Ready ws b w) (v : 
           ∙ look-here ready₁ v low (firstOf ws v) (mark-here ready v low 2) ∙ sym (ap (cursorIn ws b w) e ∙ cursor-unmet ws b w v m)
       go (no q) = look-others ready₁ v low (firstOf ws v) u l q ∙ mark-cursors ready v low 2 u l q
 
+  pub found-top : getD (discovered ws b w v n) (b .queue + n) 0 ≡ v
+  found-top = getD-set-same w₂ (b .queue + n) v 0 (stack-place (ready₂ .based) n room)
+
   pub found-stack : latest (discovered ws b w v n) (b .queue) (n + 1) ≡ v ∷ latest w (b .queue) n
   found-stack =
       latest-push w₂ (b .queue) n v (stack-place (ready₂ .based) n room)

@@ -4,7 +4,7 @@ ghost use mathlib.Core.Path.{_≡_};
 ghost use mathlib.Core.Bool.{true, false};
 ghost use Prim.Native.Nat.{ℕ, _+_, _-_, _<_, _≤_};
 ghost use lib.Dec.{eqb};
-ghost use lib.ListN.{length};
+ghost use lib.ListN.{length, set};
 ghost use Rattle.theory.specs.Words.{theoryOf};
 ghost use Rattle.theory.specs.Edges.{vertices};
 ghost use Rattle.theory.specs.Accepted.{Accepted, edition1};
@@ -12,13 +12,12 @@ ghost use Rattle.area.specs.Layout.{Laid};
 ghost use Rattle.area.specs.Marks.{markIn};
 ghost use Rattle.finishing.specs.Cursors.{hasOperand, firstOf};
 ghost use Rattle.finishing.specs.Finished.{Ready, Marked, Finished};
-ghost use Rattle.finishing.specs.Walking.{Walking, OnTop, Looking, Looked, Found, Meeting, Met, Stepped, Descended};
+ghost use Rattle.finishing.specs.Walking.{Walking, OnTop, Found, Meeting, discovered, Onward, Stepped, Entered, Descended};
 use area::Bases;
 
-// What stands at a cursor: a vertex, a fact, or nothing more.
+// What a look finds: a vertex that is still to be met, or nothing more.
 enum Entry {
     Vertex(usize),
-    Fact,
     Done,
 }
 
@@ -43,21 +42,6 @@ fn first_entry(graph: &[u16], b: Bases, v: usize) -> usize
     graph::first_leaf(graph, n)
 }
 
-// A vertex that is still to be met is marked, its cursor is set to its first entry, and it goes on the stack; answers how many are on it.
-fn meet(graph: &[u16], work: &mut [u16], b: Bases, v: usize, top: usize) -> usize
-    requires { ⌜ Accepted edition1 (now graph) × Meeting (now graph) b (now work) v top ⌝ }
-    ensures { λ r. ⌜ Met (now (graph .entry)) b (now (work .entry)) (now (work .exit)) v top r ⌝ }
-{
-    let mark = area::mark(b, v);
-    if graph::at(work, mark) != 1 {
-        return top;
-    }
-    area::put(work, mark, 2);
-    area::put(work, b.dependencies + v, first_entry(graph, b, v));
-    area::put(work, b.queue + top, v);
-    top + 1
-}
-
 // Whether vertex v is still to be met.
 fn is_new(work: &[u16], b: Bases, v: usize) -> bool
     requires { ⌜ Laid b × (v < b .atoms + b .nodes) × (b .end ≤ length (now work)) ⌝ }
@@ -66,7 +50,17 @@ fn is_new(work: &[u16], b: Bases, v: usize) -> bool
     graph::at(work, area::mark(b, v)) == 1
 }
 
-// The next producer with head a that is a fact, or whose body is still to be met.
+// A vertex that is still to be met is marked, its cursor is set to its first entry, and it goes on the stack, above `top` others.
+fn meet(graph: &[u16], work: &mut [u16], b: Bases, v: usize, top: usize)
+    requires { ⌜ Accepted edition1 (now graph) × Meeting (now graph) b (now work) v top ⌝ }
+    ensures { λ _. ⌜ now (work .exit) ≡ discovered (now (graph .entry)) b (now (work .entry)) v top ⌝ }
+{
+    area::put(work, area::mark(b, v), 2);
+    area::put(work, b.dependencies + v, first_entry(graph, b, v));
+    area::put(work, b.queue + top, v);
+}
+
+// The body, still to be met, of the next producer with head a that has one.
 fn look_atom(graph: &[u16], work: &mut [u16], b: Bases, a: usize) -> Entry
     requires { ⌜ Accepted edition1 (now graph) × ((top : ℕ) × (done : ℕ) × OnTop (now graph) b (now work) a top done) × (a < b .atoms) ⌝ }
     ensures { λ r. ⌜ Found (now (graph .entry)) b (now (work .entry)) (now (work .exit)) a r ⌝ }
@@ -78,13 +72,11 @@ fn look_atom(graph: &[u16], work: &mut [u16], b: Bases, a: usize) -> Entry
     while start + cursor < end {
         let body = graph::body(graph, graph::at(work, start + cursor));
         cursor += 1;
-        if body == 0 {
-            area::put(work, place, cursor);
-            return Entry::Fact;
-        }
-        if is_new(work, b, b.atoms + (body - 1)) {
-            area::put(work, place, cursor);
-            return Entry::Vertex(b.atoms + (body - 1));
+        if body > 0 {
+            if is_new(work, b, b.atoms + (body - 1)) {
+                area::put(work, place, cursor);
+                return Entry::Vertex(b.atoms + (body - 1));
+            }
         }
     }
     area::put(work, place, cursor);
@@ -111,20 +103,25 @@ fn look_leaf(graph: &[u16], work: &mut [u16], b: Bases, v: usize) -> Entry
     Entry::Done
 }
 
-// The operand of a node, unless it has been looked at.
+// The operand of a node, unless it has been looked at or met.
 fn look_operand(graph: &[u16], work: &mut [u16], b: Bases, v: usize) -> Entry
-    requires { ⌜ Accepted edition1 (now graph) × Looking (now graph) b (now work) v × (b .atoms ≤ v) × (hasOperand (now graph) (v - b .atoms) ≡ true) ⌝ }
-    ensures { λ r. ⌜ Looked (now (graph .entry)) b (now (work .entry)) (now (work .exit)) v r ⌝ }
+    requires { ⌜ Accepted edition1 (now graph) × ((top : ℕ) × (done : ℕ) × OnTop (now graph) b (now work) v top done) × (b .atoms ≤ v) × (hasOperand (now graph) (v - b .atoms) ≡ true) ⌝ }
+    ensures { λ r. ⌜ Found (now (graph .entry)) b (now (work .entry)) (now (work .exit)) v r ⌝ }
 {
     let place = b.dependencies + v;
     if graph::at(work, place) == 0 {
         return Entry::Done;
     }
+    let operand = graph::operand(graph, v - b.atoms);
+    let new = is_new(work, b, operand);
     area::put(work, place, 0);
-    Entry::Vertex(graph::operand(graph, v - b.atoms))
+    if new {
+        return Entry::Vertex(operand);
+    }
+    Entry::Done
 }
 
-// The next entry of a vertex, past those that lead to vertices met before; its cursor goes past it.
+// The next entry of a vertex that leads to one still to be met; the cursor goes past it.
 fn look(graph: &[u16], work: &mut [u16], b: Bases, v: usize) -> Entry
     requires { ⌜ Accepted edition1 (now graph) × ((top : ℕ) × (done : ℕ) × OnTop (now graph) b (now work) v top done) ⌝ }
     ensures { λ r. ⌜ Found (now (graph .entry)) b (now (work .entry)) (now (work .exit)) v r ⌝ }
@@ -138,7 +135,40 @@ fn look(graph: &[u16], work: &mut [u16], b: Bases, v: usize) -> Entry
     look_leaf(graph, work, b, v)
 }
 
-// One step: the next entry of the top is looked at, and met if it is new; a top with nothing left is finished.
+// The top of the stack, v, is finished.
+fn finish(work: &mut [u16], b: Bases, v: usize, top: usize, done: usize) -> Tops
+    requires { ⌜ (b .«body_nodes» + done < length (now work)) × (v < 65536) × (0 < top) ⌝ }
+    ensures { λ r. ⌜ (now (work .exit) ≡ set (now (work .entry)) (b .«body_nodes» + done) v) × (r .top ≡ top - 1) × (r .done ≡ done + 1) ⌝ }
+{
+    area::put(work, b.body_nodes + done, v);
+    Tops {
+        top: top - 1,
+        done: done + 1,
+    }
+}
+
+// On from v, which was just met and is on top: if v takes an operand, that is met too, or v is finished if the operand was met before.
+fn through(graph: &[u16], work: &mut [u16], b: Bases, v: usize, top: usize, done: usize) -> Tops
+    requires { ⌜ Accepted edition1 (now graph) × OnTop (now graph) b (now work) v top done ⌝ }
+    ensures { λ r. ⌜ Onward (now (graph .entry)) b (now (work .entry)) (now (work .exit)) (r .top) (r .done) done ⌝ }
+{
+    if v < b.atoms {
+        return Tops { top, done };
+    }
+    if !graph::takes_operand(graph::kind(graph, v - b.atoms)) {
+        return Tops { top, done };
+    }
+    let entry = look_operand(graph, work, b, v);
+    match entry {
+        Entry::Done => finish(work, b, v, top, done),
+        Entry::Vertex(a) => {
+            meet(graph, work, b, a, top);
+            Tops { top: top + 1, done }
+        }
+    }
+}
+
+// One step: the next vertex that the top leads to is met, and the walk goes on through it; a top with nothing left is finished.
 fn step(graph: &[u16], work: &mut [u16], b: Bases, top: usize, done: usize) -> Tops
     requires { ⌜ Accepted edition1 (now graph) × Walking (now graph) b (now work) top done × (0 < top) ⌝ }
     ensures { λ r. ⌜ Stepped (now (graph .entry)) b (now (work .entry)) (now (work .exit)) (r .top) (r .done) done ⌝ }
@@ -146,19 +176,24 @@ fn step(graph: &[u16], work: &mut [u16], b: Bases, top: usize, done: usize) -> T
     let v = graph::at(work, b.queue + (top - 1));
     let entry = look(graph, work, b, v);
     match entry {
-        Entry::Done => {
-            area::put(work, b.body_nodes + done, v);
-            Tops {
-                top: top - 1,
-                done: done + 1,
-            }
-        }
-        Entry::Fact => Tops { top, done },
+        Entry::Done => finish(work, b, v, top, done),
         Entry::Vertex(x) => {
-            let top = meet(graph, work, b, x, top);
-            Tops { top, done }
+            meet(graph, work, b, x, top);
+            through(graph, work, b, x, top + 1, done)
         }
     }
+}
+
+// A root is met, if it is still to be met; answers how many are on the stack.
+fn enter(graph: &[u16], work: &mut [u16], b: Bases, root: usize) -> usize
+    requires { ⌜ Accepted edition1 (now graph) × Ready (now graph) b (now work) × (root < vertices (theoryOf (now graph))) ⌝ }
+    ensures { λ r. ⌜ Entered (now (graph .entry)) b (now (work .entry)) (now (work .exit)) root r ⌝ }
+{
+    if is_new(work, b, root) {
+        meet(graph, work, b, root, 0);
+        return 1;
+    }
+    0
 }
 
 // The walk from one root, if it is still to be met.
@@ -166,7 +201,7 @@ fn descend(graph: &[u16], work: &mut [u16], b: Bases, root: usize, done: usize) 
     requires { ⌜ Accepted edition1 (now graph) × Walking (now graph) b (now work) 0 done × (root < vertices (theoryOf (now graph))) ⌝ }
     ensures { λ r. ⌜ Descended (now (graph .entry)) b (now (work .entry)) (now (work .exit)) root r ⌝ }
 {
-    let mut top = meet(graph, work, b, root, 0);
+    let mut top = enter(graph, work, b, root);
     let mut n = done;
     while top > 0 {
         let tops = step(graph, work, b, top, n);

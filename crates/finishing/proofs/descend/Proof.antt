@@ -1,5 +1,5 @@
 use Rattle.finishing.specs.Walking.{ahead, Walked}
-use Rattle.finishing.proofs.DescentLaws.{walked-none, walked-on, root-meeting, root-met, descended}
+use Rattle.finishing.proofs.DescentLaws.{walked-none, walked-on, root-entered, descended}
 use borrow.Author.Needs.{needs}
 use Rattle.finishing.proofs.descend.Statement.{statement}
 use Rattle.finishing.proofs.descend.Tie as tie
@@ -10,17 +10,17 @@ Inv-loop graph work₀ b root done top₀ n₀ work top n = Walked graph b work�
 abbrev μ-loop : tie.MeasureT-loop
 μ-loop graph work₀ b root done top₀ n₀ work top n = ahead graph b work n
 
-meet-requires : tie.Need-meet-requires Inv-loop μ-loop
-meet-requires c κs =
+enter-requires : tie.Need-enter-requires Inv-loop μ-loop
+enter-requires c κs =
     let c-pre = c .before .before .before .pre in
-    (c-pre .0, root-meeting (c-pre .1) (c-pre .2))
+    (c-pre .0, c-pre .1 .ready, c-pre .2)
 
 loop-holds : tie.Need-loop-holds Inv-loop μ-loop
 loop-holds c =
-    let c-meet = c .before .before .meet in
+    let c-enter = c .before .before .enter in
     let p1 = c .before .before .before .before .before .before in
     let c-pre = p1 .pre in
-    walked-none (root-met (c-pre .1) (c-pre .2) (c-pre .0) (c-meet .ensures) .0 .walking)
+    walked-none (root-entered (c-pre .1) (c-pre .2) (c-pre .0) (c-enter .ensures) .0 .walking)
 
 step-requires : tie.Need-step-requires Inv-loop μ-loop
 step-requires c κs =
@@ -52,10 +52,10 @@ returns c =
     let c-loop-test = c .loop-test in
     let c-loop = c .before .loop in
     let p1 = c .before .before .before .before in
-    let c-meet = p1 .meet in
+    let c-enter = p1 .enter in
     let p2 = p1 .before .before .before .before in
     let c-pre = p2 .pre in
-    descended (c-pre .1) (c-pre .2) (c-pre .0) (c-meet .ensures) (c-loop .inv) (c-loop-test .left)
+    descended (c-pre .1) (c-pre .2) (c-pre .0) (c-enter .ensures) (c-loop .inv) (c-loop-test .left)
 
 pub descend-spec : {M : Type 1} → statement M
 descend-spec =
@@ -63,7 +63,7 @@ descend-spec =
     (tie.spec
     Inv-loop
     μ-loop
-    meet-requires
+    enter-requires
     loop-holds
     step-requires
     loop-less

@@ -1,7 +1,7 @@
 use mathlib.Core.Path.{sym, _∙_}
 use Rattle.finishing.proofs.CursorLaws.{node-in, node-kind, node-says}
 use Rattle.finishing.proofs.PlaceLaws.{atoms-are}
-use Rattle.finishing.proofs.PassedLaws.{top-under, looking, found-looked}
+use Rattle.finishing.proofs.PassedLaws.{top-under}
 use borrow.Author.Needs.{needs}
 use Rattle.finishing.proofs.look.Statement.{statement}
 use Rattle.finishing.proofs.look.Tie as tie
@@ -35,15 +35,13 @@ look-operand-requires c κs =
     let c-kind = c .before .before .before .kind in
     let c-if1 = c .before .before .before .before .before .if1 in
     let c-pre = c .before .before .before .before .before .before .before .before .before .pre in
-    (c-pre .0, looking (c-pre .1 .2), c-if1 .left, (sym (node-says _ (c-pre .0) (top-under (c-pre .1 .2)) (atoms-are (c-pre .1 .2 .walking .ready .based)) (c-if1 .left) (c-kind .ensures) (c-takes-operand .ensures)) ∙ c-if2 .taken))
+    (c-pre .0, c-pre .1, c-if1 .left, (sym (node-says _ (c-pre .0) (top-under (c-pre .1 .2)) (atoms-are (c-pre .1 .2 .walking .ready .based)) (c-if1 .left) (c-kind .ensures) (c-takes-operand .ensures)) ∙ c-if2 .taken))
 
 same-length-2 : tie.Need-same-length-2
 same-length-2 c = search needs
 
 returns-2 : tie.Need-returns-2
-returns-2 c =
-    let c-look-operand = c .before .before .look-operand in
-    found-looked (c-look-operand .ensures)
+returns-2 c = search needs
 
 look-leaf-requires : tie.Need-look-leaf-requires
 look-leaf-requires c κs =

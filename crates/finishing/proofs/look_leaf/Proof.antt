@@ -8,7 +8,7 @@ use Rattle.theory.proofs.ChainLaws.{chain-falls}
 use Rattle.graph.proofs.DecodeLaws.{value-of, next-of, link-in}
 use Rattle.finishing.specs.Walking.{OnTop, Passed}
 use Rattle.finishing.proofs.PlaceLaws.{vertices-few, vertex-low}
-use Rattle.finishing.proofs.PassedLaws.{here, passed-none, not-new, leaves-done, leaf-ends, leaf-few, leaf-under, leaf-found, leaf-passed}
+use Rattle.finishing.proofs.PassedLaws.{here, passed-none, is-new, not-new, inputs-done, leaf-ends, leaf-few, leaf-under, leaf-found, leaf-passed}
 use borrow.Author.Needs.{needs}
 use Rattle.finishing.proofs.look_leaf.Statement.{statement}
 use Rattle.finishing.proofs.look_leaf.Tie as tie
@@ -109,6 +109,8 @@ same-length c =
 returns : tie.Need-returns Inv-loop μ-loop
 returns c =
     let c-put = c .before .before .before .put in
+    let c-if1 = c .before .before .before .before .before .if1 in
+    let c-is-new = c .before .before .before .before .before .before .is-new in
     let p1 = c .before .before .before .before .before .before .before .before .before in
     let c-next = p1 .next in
     let c-value = p1 .before .value in
@@ -116,7 +118,8 @@ returns c =
     let p2 = p1 .before .before .before .before .before .before .before in
     let c-link-records = p2 .link-records in
     let c-pre = p2 .before .before .before .pre in
-    rw (c-put .ensures, c-loop .inv .0) (leaf-found (c-pre .0) (c-pre .1 .2) (c-loop .inv .1) (c-pre .2) (c-pre .3) (λ z. omega arith) (c-next .result) (next-of (c-link-records .ensures) (c-loop .cursor) (c-next .ensures) (omega arith)) (value-of (c-link-records .ensures) (c-loop .cursor) (c-value .ensures) (omega arith)))
+    let c-args = p2 .before .before .before .args in
+    rw (c-put .ensures, c-loop .inv .0) (leaf-found (c-pre .0) (c-pre .1 .2) (c-loop .inv .1) (c-pre .2) (c-pre .3) (λ z. omega arith) (c-next .result) (next-of (c-link-records .ensures) (c-loop .cursor) (c-next .ensures) (omega arith)) (value-of (c-link-records .ensures) (c-loop .cursor) (c-value .ensures) (omega arith)) (is-new (c-args .b) (c-args .b .atoms + c-value .result) (c-loop .inv .0) (c-is-new .ensures) (c-if1 .taken)))
 
 loop-less : tie.Need-loop-less Inv-loop μ-loop
 loop-less c =
@@ -163,7 +166,7 @@ returns-2 c =
     let c-loop = p1 .loop in
     let p2 = p1 .before .before .before .before .before .before .before in
     let c-pre = p2 .pre in
-    rw (c-put2 .ensures, c-loop .inv .0) (leaves-done (c-pre .0) (c-pre .1 .2) (c-loop .inv .1) (c-pre .2) (omega arith))
+    rw (c-put2 .ensures, c-loop .inv .0) (inputs-done (c-pre .0) (c-pre .1 .2) (c-loop .inv .1) (c-pre .2) (omega arith))
 
 pub look-leaf-spec : {M : Type 1} → statement M
 look-leaf-spec =
