@@ -188,6 +188,9 @@ module _ (ws : List ℕ) where
       unfolding nodeFirst
       first-operand q = first-is q
 
+      pub first-some : hasOperand ws (v - m) ≡ true → {c : ℕ} → c ≡ firstOf ws v → c ≢ 0
+      first-some q e z = let f = first-operand q in omega arith
+
       pub first-leaf : hasOperand ws (v - m) ≡ false → firstOf ws v ≡ getD ws (nodeAt (v - m) + 2) 0
       unfolding nodeFirst
       first-leaf q = first-is q

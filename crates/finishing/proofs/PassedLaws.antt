@@ -19,11 +19,11 @@ use Rattle.area.specs.Marks.{markIn}
 use Rattle.adjacency.specs.Tables.{startAt}
 use Rattle.finishing.specs.declared.Entry.{Entry}
 use Rattle.finishing.specs.declared.Entry.the-variants.{Vertex, Done}
-use Rattle.finishing.specs.Cursors.{hasOperand, leftOf, Linked}
+use Rattle.finishing.specs.Cursors.{hasOperand, leftOf, firstOf, Linked}
 use Rattle.finishing.specs.Finished.{Ready}
 use Rattle.finishing.specs.Walking.{Walking, OnTop, Looking, Looked, discovered, Meeting, Onward, Passed, Found, Stepped}
 use Rattle.finishing.proofs.PlaceLaws.{vertices-few, atoms-are, cursor-place, order-place, vertex-low}
-use Rattle.finishing.proofs.ViewLaws.{look-marks, found-top}
+use Rattle.finishing.proofs.ViewLaws.{look-marks, found-top, found-first}
 use Rattle.finishing.proofs.LookLaws as look
 use Rattle.finishing.proofs.StepLaws as step
 use Rattle.finishing.proofs.StepLaws.{top-low, top-looking, looked-ready, entry-low, entry-meeting, step-same, step-known, step-new, step-done}
@@ -135,6 +135,9 @@ module _ {ws : List ℕ} {b : Bases} {w w₁ : List ℕ} {v top done : ℕ} (o :
         let e : top ≡ top + 1 - 1 = omega arith in
         as-top (vertex-step .walked .walking) (omega arith)
         (sym (found-top (m .ready) x (m .low) top (m .room)) ∙ ap (λ (i : ℕ). getD (discovered ws b w₁ x top) (b .queue + i) 0) e)
+
+    pub vertex-first : getD (discovered ws b w₁ x top) (b .dependencies + x) 0 ≡ firstOf ws x
+    vertex-first = let m = vertex-meeting in found-first (m .ready) x (m .low) top (m .room)
 
 -- a look that finds nothing, without passing over anything
 pub found-none : {ws : List ℕ} {b : Bases} {w w′ : List ℕ} {v : ℕ} → Looked ws b w w′ v Done → Found ws b w w′ v Done

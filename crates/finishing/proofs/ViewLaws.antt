@@ -167,6 +167,12 @@ module _ {ws : List ℕ} {b : Bases} {w : List ℕ} (ready : Ready ws b w) (v : 
   pub found-top : getD (discovered ws b w v n) (b .queue + n) 0 ≡ v
   found-top = getD-set-same w₂ (b .queue + n) v 0 (stack-place (ready₂ .based) n room)
 
+  -- at the first of its entries
+  pub found-first : getD (discovered ws b w v n) (b .dependencies + v) 0 ≡ firstOf ws v
+  found-first =
+      getD-set-other w₂ (b .queue + n) (b .dependencies + v) v 0 (λ e. let a = ready .based .laid in let k = vertex-low (ready .based) v low in omega arith)
+      ∙ getD-set-same w₁ (b .dependencies + v) (firstOf ws v) 0 (cursor-place (ready₁ .based) v low)
+
   pub found-stack : latest (discovered ws b w v n) (b .queue) (n + 1) ≡ v ∷ latest w (b .queue) n
   found-stack =
       latest-push w₂ (b .queue) n v (stack-place (ready₂ .based) n room)

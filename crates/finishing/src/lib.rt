@@ -1,10 +1,11 @@
 // The first walk of Sharir (1981): from a vertex to its predecessors, with a stack and a cursor a vertex, which lists the vertices of preparation
 // in a finishing order. A vertex is marked 1 until it is met and 2 from then on; what is marked 0 is outside.
 ghost use mathlib.Core.Path.{_≡_};
+ghost use mathlib.Core.Logic.{_≢_};
 ghost use mathlib.Core.Bool.{true, false};
 ghost use Prim.Native.Nat.{ℕ, _+_, _-_, _<_, _≤_};
 ghost use lib.Dec.{eqb};
-ghost use lib.ListN.{length, set};
+ghost use lib.ListN.{length, getD, set};
 ghost use Rattle.theory.specs.Words.{theoryOf};
 ghost use Rattle.theory.specs.Edges.{vertices};
 ghost use Rattle.theory.specs.Accepted.{Accepted, edition1};
@@ -103,22 +104,30 @@ fn look_leaf(graph: &[u16], work: &mut [u16], b: Bases, v: usize) -> Entry
     Entry::Done
 }
 
+// The operand of a node, which has not been looked at, unless it has been met.
+fn take_operand(graph: &[u16], work: &mut [u16], b: Bases, v: usize) -> Entry
+    requires { ⌜ Accepted edition1 (now graph) × ((top : ℕ) × (done : ℕ) × OnTop (now graph) b (now work) v top done) × (b .atoms ≤ v) × (hasOperand (now graph) (v - b .atoms) ≡ true) ⌝ }
+    requires { ⌜ getD (now work) (b .dependencies + v) 0 ≢ 0 ⌝ }
+    ensures { λ r. ⌜ Found (now (graph .entry)) b (now (work .entry)) (now (work .exit)) v r ⌝ }
+{
+    let operand = graph::operand(graph, v - b.atoms);
+    let new = is_new(work, b, operand);
+    area::put(work, b.dependencies + v, 0);
+    if new {
+        return Entry::Vertex(operand);
+    }
+    Entry::Done
+}
+
 // The operand of a node, unless it has been looked at or met.
 fn look_operand(graph: &[u16], work: &mut [u16], b: Bases, v: usize) -> Entry
     requires { ⌜ Accepted edition1 (now graph) × ((top : ℕ) × (done : ℕ) × OnTop (now graph) b (now work) v top done) × (b .atoms ≤ v) × (hasOperand (now graph) (v - b .atoms) ≡ true) ⌝ }
     ensures { λ r. ⌜ Found (now (graph .entry)) b (now (work .entry)) (now (work .exit)) v r ⌝ }
 {
-    let place = b.dependencies + v;
-    if graph::at(work, place) == 0 {
+    if graph::at(work, b.dependencies + v) == 0 {
         return Entry::Done;
     }
-    let operand = graph::operand(graph, v - b.atoms);
-    let new = is_new(work, b, operand);
-    area::put(work, place, 0);
-    if new {
-        return Entry::Vertex(operand);
-    }
-    Entry::Done
+    take_operand(graph, work, b, v)
 }
 
 // The next entry of a vertex that leads to one still to be met; the cursor goes past it.
@@ -149,7 +158,7 @@ fn finish(work: &mut [u16], b: Bases, v: usize, top: usize, done: usize) -> Tops
 
 // On from v, which was just met and is on top: if v takes an operand, that is met too, or v is finished if the operand was met before.
 fn through(graph: &[u16], work: &mut [u16], b: Bases, v: usize, top: usize, done: usize) -> Tops
-    requires { ⌜ Accepted edition1 (now graph) × OnTop (now graph) b (now work) v top done ⌝ }
+    requires { ⌜ Accepted edition1 (now graph) × OnTop (now graph) b (now work) v top done × (getD (now work) (b .dependencies + v) 0 ≡ firstOf (now graph) v) ⌝ }
     ensures { λ r. ⌜ Onward (now (graph .entry)) b (now (work .entry)) (now (work .exit)) (r .top) (r .done) done ⌝ }
 {
     if v < b.atoms {
@@ -158,7 +167,7 @@ fn through(graph: &[u16], work: &mut [u16], b: Bases, v: usize, top: usize, done
     if !graph::takes_operand(graph::kind(graph, v - b.atoms)) {
         return Tops { top, done };
     }
-    let entry = look_operand(graph, work, b, v);
+    let entry = take_operand(graph, work, b, v);
     match entry {
         Entry::Done => finish(work, b, v, top, done),
         Entry::Vertex(a) => {

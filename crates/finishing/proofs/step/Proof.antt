@@ -2,7 +2,7 @@ use native.Mathlib.Omega.{arith}
 use Rattle.finishing.proofs.PlaceLaws.{vertices-few}
 use Rattle.finishing.proofs.StepLaws.{top-place}
 use Rattle.finishing.proofs.DescentLaws.{step-onward}
-use Rattle.finishing.proofs.PassedLaws.{as-top, done-finishing, done-step, vertex-meeting, vertex-step, vertex-top}
+use Rattle.finishing.proofs.PassedLaws.{as-top, done-finishing, done-step, vertex-meeting, vertex-step, vertex-top, vertex-first}
 use borrow.Author.Needs.{needs}
 use Rattle.finishing.proofs.step.Statement.{statement}
 use Rattle.finishing.proofs.step.Tie as tie
@@ -77,7 +77,9 @@ through-requires c κs =
     let c-at = p2 .before .before .at in
     let p3 = p2 .before .before .before .before .before .before .before in
     let c-pre = p3 .pre in
-    (c-pre .0, rw (c-meet .ensures) (vertex-top (as-top (c-pre .1) (c-pre .2) (c-at .ensures .0)) (c-pre .0) (rw (c-entry .given .1) at (c-look .ensures))))
+    let o = as-top (c-pre .1) (c-pre .2) (c-at .ensures .0) in
+    let f = rw (c-entry .given .1) at (c-look .ensures) in
+    (c-pre .0, rw (c-meet .ensures) (vertex-top o (c-pre .0) f), rw (c-meet .ensures) (vertex-first o (c-pre .0) f))
 
 same-length : tie.Need-same-length
 same-length c = search needs

@@ -1,7 +1,7 @@
 use mathlib.Core.Path.{sym, _∙_}
 use native.Mathlib.Omega.{arith}
 use borrow.Author.Tests.{not-false}
-use Rattle.finishing.proofs.CursorLaws.{node-in, node-kind, node-says}
+use Rattle.finishing.proofs.CursorLaws.{node-in, node-kind, node-says, first-some}
 use Rattle.finishing.proofs.PlaceLaws.{vertices-few, atoms-are}
 use Rattle.finishing.proofs.DescentLaws.{onward-none, stepped-onward}
 use Rattle.finishing.proofs.PassedLaws.{top-under, done-finishing, done-step, vertex-meeting, vertex-step}
@@ -36,8 +36,8 @@ returns-2 c =
     let c-pre = p1 .pre in
     onward-none (c-pre .1 .walking)
 
-look-operand-requires : tie.Need-look-operand-requires
-look-operand-requires c κs =
+take-operand-requires : tie.Need-take-operand-requires
+take-operand-requires c κs =
     let c-if2 = c .before .if2 in
     let c-takes-operand = c .before .before .takes-operand in
     let c-kind = c .before .before .before .kind in
@@ -46,7 +46,10 @@ look-operand-requires c κs =
     let p2 = p1 .before .before .before .before in
     let c-pre = p2 .pre in
     let c-args = p2 .args in
-    (c-pre .0, (c-args .top, c-args .done, c-pre .1), c-if1 .left, (sym (node-says _ (c-pre .0) (top-under (c-pre .1)) (atoms-are (c-pre .1 .walking .ready .based)) (c-if1 .left) (c-kind .ensures) (c-takes-operand .ensures)) ∙ not-false (c-takes-operand .result) (c-if2 .left)))
+    let low = top-under (c-pre .1) in
+    let atoms = atoms-are (c-pre .1 .walking .ready .based) in
+    let q = sym (node-says _ (c-pre .0) low atoms (c-if1 .left) (c-kind .ensures) (c-takes-operand .ensures)) ∙ not-false (c-takes-operand .result) (c-if2 .left) in
+    ((c-pre .0, (c-args .top, c-args .done, c-pre .1), c-if1 .left, q), first-some _ (c-pre .0) low atoms (c-if1 .left) q (c-pre .2))
 
 enum-told : tie.Need-enum-told
 enum-told c = search needs
@@ -55,10 +58,10 @@ finish-requires : tie.Need-finish-requires
 finish-requires c κs =
     let c-enum-told = c .before .enum-told in
     let p1 = c .before .before .before .before .before in
-    let c-look-operand = p1 .look-operand in
+    let c-take-operand = p1 .take-operand in
     let p2 = p1 .before .before .before .before .before .before .before .before .before .before in
     let c-pre = p2 .pre in
-    done-finishing (c-pre .1) (rw (c-enum-told .given .1) at (c-look-operand .ensures)) (c-pre .0)
+    done-finishing (c-pre .1) (rw (c-enum-told .given .1) at (c-take-operand .ensures)) (c-pre .0)
 
 enum-known-entry : tie.Need-enum-known-entry
 enum-known-entry c = search needs
@@ -67,20 +70,20 @@ meet-requires : tie.Need-meet-requires
 meet-requires c κs =
     let c-entry = c .before .before .entry in
     let p1 = c .before .before .before .before .before .before in
-    let c-look-operand = p1 .look-operand in
+    let c-take-operand = p1 .take-operand in
     let p2 = p1 .before .before .before .before .before .before .before .before .before .before in
     let c-pre = p2 .pre in
-    (c-pre .0, vertex-meeting (c-pre .1) (c-pre .0) (rw (c-entry .given .1) at (c-look-operand .ensures)))
+    (c-pre .0, vertex-meeting (c-pre .1) (c-pre .0) (rw (c-entry .given .1) at (c-take-operand .ensures)))
 
 add-t21 : tie.Need-add-t21
 add-t21 c =
     let p1 = c .before .before .before .before .before in
     let c-entry = p1 .entry in
     let p2 = p1 .before .before .before .before in
-    let c-look-operand = p2 .look-operand in
+    let c-take-operand = p2 .take-operand in
     let p3 = p2 .before .before .before .before .before .before .before .before .before .before in
     let c-pre = p3 .pre in
-    let m = vertex-meeting (c-pre .1) (c-pre .0) (rw (c-entry .given .1) at (c-look-operand .ensures)) .room in let f = vertices-few (c-pre .1 .walking .ready .based) (c-pre .0) in omega arith
+    let m = vertex-meeting (c-pre .1) (c-pre .0) (rw (c-entry .given .1) at (c-take-operand .ensures)) .room in let f = vertices-few (c-pre .1 .walking .ready .based) (c-pre .0) in omega arith
 
 same-length : tie.Need-same-length
 same-length c = search needs
@@ -91,10 +94,10 @@ returns-3 c =
     let p1 = c .before .before .before .before in
     let c-enum-told = p1 .enum-told in
     let p2 = p1 .before .before .before .before in
-    let c-look-operand = p2 .look-operand in
+    let c-take-operand = p2 .take-operand in
     let p3 = p2 .before .before .before .before .before .before .before .before .before .before in
     let c-pre = p3 .pre in
-    rw (c-finish .ensures .0, c-finish .ensures .1, c-finish .ensures .2) (stepped-onward (done-step (c-pre .1) (rw (c-enum-told .given .1) at (c-look-operand .ensures))))
+    rw (c-finish .ensures .0, c-finish .ensures .1, c-finish .ensures .2) (stepped-onward (done-step (c-pre .1) (rw (c-enum-told .given .1) at (c-take-operand .ensures))))
 
 same-length-2 : tie.Need-same-length-2
 same-length-2 c = search needs
@@ -105,10 +108,10 @@ returns-4 c =
     let p1 = c .before .before .before .before .before in
     let c-entry = p1 .entry in
     let p2 = p1 .before .before .before .before in
-    let c-look-operand = p2 .look-operand in
+    let c-take-operand = p2 .take-operand in
     let p3 = p2 .before .before .before .before .before .before .before .before .before .before in
     let c-pre = p3 .pre in
-    rw (c-meet .ensures) (stepped-onward (vertex-step (c-pre .1) (c-pre .0) (rw (c-entry .given .1) at (c-look-operand .ensures))))
+    rw (c-meet .ensures) (stepped-onward (vertex-step (c-pre .1) (c-pre .0) (rw (c-entry .given .1) at (c-take-operand .ensures))))
 
 pub through-spec : {M : Type 1} → statement M
 through-spec =
@@ -118,7 +121,7 @@ through-spec =
     kind-requires
     takes-operand-requires
     returns-2
-    look-operand-requires
+    take-operand-requires
     enum-told
     finish-requires
     enum-known-entry
