@@ -1,4 +1,9 @@
+use mathlib.Core.Path.{ap, _∙_}
+use Prim.Native.Nat.{ℕ}
 use native.Mathlib.Omega.{arith}
+use denote.Ref.{now}
+use lib.Dec.{eqb}
+use lib.ListN.{getD}
 use Rattle.area.proofs.MarkLaws.{mark-high}
 use borrow.Author.Needs.{needs}
 use Rattle.finishing.proofs.is_new.Statement.{statement}
@@ -19,12 +24,8 @@ returns c =
     let c-at = c .at in
     let c-mark = c .before .mark in
     let c-args = c .before .before .before .args in
-    rw (c-at .ensures .0, c-mark .ensures)
+    ap (λ (n : ℕ). eqb n 1) (c-at .ensures .0 ∙ ap (λ (i : ℕ). getD (now (c-args .work)) i 0) (c-mark .ensures))
 
 pub is-new-spec : {M : Type 1} → statement M
 is-new-spec =
-    tie.close
-    (tie.spec
-    mark-requires
-    at-requires
-    returns)
+    tie.close (tie.spec mark-requires at-requires returns)
