@@ -13,7 +13,7 @@ use Rattle.theory.specs.Sets.{Is, Set, Mem, any, member}
 use Rattle.theory.specs.Counts.{Distinct}
 use Rattle.theory.specs.Theory.{Theory, WellFormed, joins}
 use Rattle.theory.specs.Edges.{cone}
-use Rattle.theory.proofs.SetLaws.{bool-cases, clash, is-false, mem-member, member-mem}
+use Rattle.theory.proofs.SetLaws.{bool-cases, same-test, mem-member, member-mem}
 use Rattle.theory.proofs.CountLaws.{pigeonhole}
 use Rattle.theory.proofs.EdgeLaws.{cone-leaf, cone-bound, cone-least}
 use Rattle.cones.specs.Finding.{Due, Finding}
@@ -25,10 +25,6 @@ distinct-last (y ∷ l) x d n = ((λ m. go (List·Memᴰ·append-cases l m)), di
     go : Mem y l ⊎ Mem y (x ∷ []) → ⊥
     go (inl m) = d .0 m
     go (inr m) = n (List·Memᴰ·head (sym (List·Memᴰ·eq-of-singleton m)))
-
-pub same-test : (a b : Bool) → (Is a → Is b) → (Is b → Is a) → a ≡ b
-same-test true b f g = sym (f refl)
-same-test false b f g = sym (is-false b (λ p. clash (g p) refl))
 
 module _ {th : Theory} {wanted : Set} where
   pub find-start : {mark : ℕ → ℕ} → ((n : ℕ) → n < th .nodes → mark n ≡ 0) → Finding th wanted 0 [] [] [] mark

@@ -12,12 +12,11 @@ use Rattle.theory.specs.Sets.{Mem, any, filled}
 use Rattle.theory.specs.Words.{producerAt, valueOf, nextOf, chain, Ending, theoryOf}
 use Rattle.theory.specs.Founded.{cyclic}
 use Rattle.theory.specs.Accepted.{Edition, Accepted}
-use Rattle.theory.proofs.SetLaws.{eq-is, is-eq}
+use Rattle.theory.proofs.SetLaws.{or-none, or-assoc, same-test, eq-is, is-eq}
 use Rattle.theory.proofs.ChainLaws.{ending-next, chain-end, chain-step}
 use Rattle.graph.proofs.DecodeLaws.{the-heads}
 use Rattle.area.specs.declared.Bases.{Bases}
 use Rattle.cones.specs.Cones.{picked, wantedBy, Flagged}
-use Rattle.cones.proofs.FindLaws.{same-test}
 
 -- on the way along the chain from link `first`, at link l: whether a cyclic head was found so far
 pub record Heads (ws : List ℕ) (first l : ℕ) (found : Bool) : Type 0 where
@@ -27,14 +26,6 @@ pub record Heads (ws : List ℕ) (first l : ℕ) (found : Bool) : Type 0 where
 
 pub heads-start : {ws : List ℕ} {first : ℕ} → Ending ws first → ((a : ℕ) → Mem a (chain ws first) → a < theoryOf ws .atoms) → Heads ws first first false
 heads-start e low = record { ending = e; low = low; left = refl }
-
-or-none : (a : Bool) → a || false ≡ a
-or-none true = refl
-or-none false = refl
-
-or-assoc : (a b c : Bool) → (a || b) || c ≡ a || (b || c)
-or-assoc true b c = refl
-or-assoc false b c = refl
 
 module _ {ws : List ℕ} {first l : ℕ} {found : Bool} (h : Heads ws first l found) where
   pub heads-end : l ≡ 0 → found ≡ any (cyclic (theoryOf ws)) (chain ws first)

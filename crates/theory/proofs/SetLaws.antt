@@ -41,6 +41,14 @@ pub or-cases : (a b : Bool) → Is (a || b) → Is a ⊎ Is b
 or-cases true b p = inl refl
 or-cases false b p = inr p
 
+pub or-none : (a : Bool) → a || false ≡ a
+or-none true = refl
+or-none false = refl
+
+pub or-assoc : (a b c : Bool) → (a || b) || c ≡ a || (b || c)
+or-assoc true b c = refl
+or-assoc false b c = refl
+
 pub not-true : (b : Bool) → Is (not b) → b ≡ false
 not-true true p = clash refl (sym p)
 not-true false p = refl
@@ -55,6 +63,10 @@ is-false true h = absurd (h refl)
 is-false false h = refl
 
 -- ---- numbers
+
+pub same-test : (a b : Bool) → (Is a → Is b) → (Is b → Is a) → a ≡ b
+same-test true b f g = sym (f refl)
+same-test false b f g = sym (is-false b (λ p. clash (g p) refl))
 
 pub T-is : (b : Bool) → T b → Is b
 T-is true t = refl
