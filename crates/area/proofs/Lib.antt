@@ -1,5 +1,5 @@
 pub mod PartLaws
+pub mod FillLaws
 pub mod WipeLaws
 pub mod LayoutLaws
 pub mod ListLaws
-pub mod MarkLaws

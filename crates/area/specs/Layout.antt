@@ -13,20 +13,18 @@ pub record Laid (b : Bases) : Type 0 where
   pub parents : b .parents + (b .nodes + 1 + b .«leaf_entries») ≤ b .«by_head»
   pub by-head : b .«by_head» + (b .atoms + 1 + b .«head_entries») ≤ b .«by_body»
   pub by-body : b .«by_body» + (b .nodes + 1 + b .producers) ≤ b .states
-  -- a pair a node
-  pub states : b .states + 2 * b .nodes ≤ b .dependencies
   -- a word a vertex
+  pub states : b .states + (b .atoms + b .nodes) ≤ b .dependencies
   pub dependencies : b .dependencies + (b .atoms + b .nodes) ≤ b .queue
   pub queue : b .queue + (b .atoms + b .nodes) ≤ b .«body_nodes»
   -- and one that is stored past the end of a list
   pub body-nodes : b .«body_nodes» + (b .atoms + b .nodes + 1) ≤ b .«fact_rows»
-  pub fact-rows : b .«fact_rows» + b .producers ≤ b .«founded_atoms»
-  pub founded-atoms : b .«founded_atoms» + b .atoms ≤ b .«cyclic_atoms»
+  pub fact-rows : b .«fact_rows» + b .producers ≤ b .«cyclic_atoms»
   pub cyclic-atoms : b .«cyclic_atoms» + b .atoms ≤ b .end
 
 -- how many words that takes
 abbrev pub wordsFor : (atoms nodes producers leaves heads : ℕ) → ℕ
-wordsFor atoms nodes producers leaves heads = 7 * atoms + 8 * nodes + 2 * producers + leaves + heads + 5
+wordsFor atoms nodes producers leaves heads = 7 * atoms + 7 * nodes + 2 * producers + leaves + heads + 5
 
 -- the regions, one after the other
 unfoldable pub layOut : (atoms nodes producers leaves heads : ℕ) → Bases
@@ -35,12 +33,11 @@ layOut atoms nodes producers leaves heads =
     let by-head = parents + (nodes + 1 + leaves) in
     let by-body = by-head + (atoms + 1 + heads) in
     let states = by-body + (nodes + 1 + producers) in
-    let dependencies = states + 2 * nodes in
+    let dependencies = states + (atoms + nodes) in
     let queue = dependencies + (atoms + nodes) in
     let body-nodes = queue + (atoms + nodes) in
     let fact-rows = body-nodes + (atoms + nodes + 1) in
-    let founded-atoms = fact-rows + producers in
-    let cyclic-atoms = founded-atoms + atoms in
+    let cyclic-atoms = fact-rows + producers in
     record {
       atoms = atoms;
       nodes = nodes;
@@ -56,7 +53,6 @@ layOut atoms nodes producers leaves heads =
       queue = queue;
       «body_nodes» = body-nodes;
       «fact_rows» = fact-rows;
-      «founded_atoms» = founded-atoms;
       «cyclic_atoms» = cyclic-atoms;
       end = cyclic-atoms + atoms;
     }

@@ -1,11 +1,10 @@
 // The work area's words: storing, clearing, and where the regions begin. A word is read by `graph::at`.
 ghost use mathlib.Core.Path.{_≡_};
 ghost use mathlib.Core.Bool.{true};
-ghost use Prim.Native.Nat.{_+_, _*_, _<_, _^_};
+ghost use Prim.Native.Nat.{_<_, _^_};
 ghost use lib.ListN.{length, set, replicate};
 ghost use Rattle.theory.specs.Accepted.{Accepted, edition1};
-ghost use Rattle.area.specs.Layout.{wordsFor, Laid, LaidOut, Based};
-ghost use Rattle.area.specs.Marks.{markOf};
+ghost use Rattle.area.specs.Layout.{wordsFor, LaidOut, Based};
 
 pub fn put(words: &mut [u16], i: usize, x: usize)
     requires { ⌜ (i < length (now words)) × (x < 65536) ⌝ }
@@ -61,7 +60,8 @@ pub fn wipe(words: &mut [u16])
     clear(&mut words[from..end]);
 }
 
-// A graph's counts, at most so many leaf entries and head entries, and where each region begins. `founded_atoms` is the Rust's `atoms`.
+// A graph's counts, at most so many leaf entries and head entries, and where each region begins. A vertex has a pair of words: its mark (`states`)
+// and its count (`dependencies`).
 pub struct Bases {
     pub atoms: usize,
     pub nodes: usize,
@@ -77,7 +77,6 @@ pub struct Bases {
     pub queue: usize,
     pub body_nodes: usize,
     pub fact_rows: usize,
-    pub founded_atoms: usize,
     pub cyclic_atoms: usize,
     pub end: usize,
 }
@@ -97,12 +96,11 @@ pub fn lay_out(
     let by_head = parents + (nodes + 1 + leaf_entries);
     let by_body = by_head + (atoms + 1 + head_entries);
     let states = by_body + (nodes + 1 + producers);
-    let dependencies = states + 2 * nodes;
+    let dependencies = states + (atoms + nodes);
     let queue = dependencies + (atoms + nodes);
     let body_nodes = queue + (atoms + nodes);
     let fact_rows = body_nodes + (atoms + nodes + 1);
-    let founded_atoms = fact_rows + producers;
-    let cyclic_atoms = founded_atoms + atoms;
+    let cyclic_atoms = fact_rows + producers;
     Bases {
         atoms,
         nodes,
@@ -118,13 +116,12 @@ pub fn lay_out(
         queue,
         body_nodes,
         fact_rows,
-        founded_atoms,
         cyclic_atoms,
         end: cyclic_atoms + atoms,
     }
 }
 
-// Those of an accepted graph. A function with several callers, which is not inlined, works them out anew: handed over, a copy would take 136 bytes of each
+// Those of an accepted graph. A function with several callers, which is not inlined, works them out anew: handed over, a copy would take 128 bytes of each
 // caller's stack.
 pub fn bases_of(graph: &[u16]) -> Bases
     requires { ⌜ Accepted edition1 (now graph) ⌝ }
@@ -137,15 +134,4 @@ pub fn bases_of(graph: &[u16]) -> Bases
         4096,
         4096,
     )
-}
-
-// Where the mark of a vertex stands.
-pub fn mark(b: Bases, v: usize) -> usize
-    requires { ⌜ Laid b × (v < b .atoms + b .nodes) × (b .end < 2 ^ 64) ⌝ }
-    ensures { λ r. ⌜ r ≡ markOf b v ⌝ }
-{
-    if v < b.atoms {
-        return b.founded_atoms + v;
-    }
-    b.states + 2 * (v - b.atoms)
 }

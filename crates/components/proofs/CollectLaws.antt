@@ -64,7 +64,7 @@ module _ {lim : ℕ} {b : Bases} {w : List ℕ} {t v : ℕ} where
         laid = h .laid;
         long = rw (length-set, length-set) (h .long);
         small = h .small;
-        kept = λ i l k. met-past (h .laid) w t v room low i l k ∙ h .kept i l k;
+        kept = λ i l. met-past (h .laid) w t v room low i l ∙ h .kept i l;
         fore = let a = h .fore in omega arith;
         front = λ i l. let a = h .fore in met-before (h .laid) w t v room low i (omega arith) ∙ h .front i l;
         within = h .within;

@@ -25,7 +25,6 @@ use Rattle.area.specs.Layout.{Based}
 use Rattle.area.proofs.PartLaws.{frame-at}
 use Rattle.events.specs.Held.{queued}
 use Rattle.area.specs.Marks.{markOf, markIn}
-use Rattle.area.proofs.MarkLaws.{mark-place}
 use Rattle.events.proofs.VertexLaws.{tables-same}
 use Rattle.components.specs.Classes.{Classifying, Flagged, Component, Sweeping, Gathered, Classified, ordered, flagAt, flagMember}
 use Rattle.components.proofs.GatherLaws.{queued-same, ordered-same}
@@ -118,11 +117,7 @@ module _ {ws : List ℕ} {b : Bases} {words : ℕ} (based : Based ws words b) wh
     flags-queue n h = let q = based .laid in queued-same b n w w′ (λ i l. flags-before (b .queue + i) (omega arith))
 
     marks-same : (v : ℕ) → v < b .atoms + b .nodes → markIn b w′ v ≡ markIn b w v
-    marks-same v l = go (mark-place (based .laid) v l .2)
-      where
-        go : (markOf b v < b .dependencies) ⊎ ((b .«founded_atoms» ≤ markOf b v) × (markOf b v < b .«cyclic_atoms»)) → getD w′ (markOf b v) 0 ≡ getD w (markOf b v) 0
-        go (inl p) = let q = based .laid in flags-before (markOf b v) (omega arith)
-        go (inr p) = flags-before (markOf b v) (p .1)
+    marks-same v l = let q = based .laid in flags-before (markOf b v) (omega arith)
 
     pub flags-state : {n found : ℕ} → found ≤ b .atoms + b .nodes → Classifying ws b w n found → Classifying ws b w′ n found
     flags-state {n} {found} f s = record {
@@ -154,8 +149,8 @@ module _ {ws : List ℕ} {b : Bases} {words : ℕ} (based : Based ws words b) wh
     state = g .state;
     after = g .after;
     flags = rw (queued-same b found w₀ w (g .front)) (record {
-      yes = λ a k m y. g .kept .flags (b .«cyclic_atoms» + a) (omega arith) ∙ f .yes a k m y;
-      no = λ a k h. g .kept .flags (b .«cyclic_atoms» + a) (omega arith) ∙ f .no a k h;
+      yes = λ a k m y. let q = based .laid in g .kept .past (b .«cyclic_atoms» + a) (omega arith) ∙ f .yes a k m y;
+      no = λ a k h. let q = based .laid in g .kept .past (b .«cyclic_atoms» + a) (omega arith) ∙ f .no a k h;
     });
     members = g .members;
   }

@@ -86,7 +86,7 @@ module _ {ws : List ℕ} {ed : Edition} (acc : Accepted ed ws) {b : Bases} {word
     -- it is met already
     pub gather-known : getD w (markOf b (getD w (b .«body_nodes» + n) 0)) 0 ≢ 2 → Gathered ws b w w n found found
     gather-known k = record {
-      kept = record { size = refl; tables = refl; order = λ i l h. refl; flags = λ i l. refl };
+      kept = record { size = refl; tables = refl; past = λ i l. refl };
       state = record { tables = s .tables; roots = left; fits = let f = s .fits in omega arith; swept = swept-known (b .atoms + b .nodes) _ _ within swept (root-in .1) (three (swept .unmet _ (root-in .1) (root-in .0))) };
       after = omega arith;
       front = λ i l. refl;
@@ -123,12 +123,7 @@ module _ {ws : List ℕ} {ed : Edition} (acc : Accepted ed ws) {b : Bases} {word
         kept₁ : Kept b w (met b w found x)
         kept₁ =
             let d = based .laid in
-            record {
-              size = met-size d w found x root-room low;
-              tables = met-frame d w found x root-room low;
-              order = λ i l h. met-past d w found x root-room low i l (inl h);
-              flags = λ i l. met-past d w found x root-room low i (omega arith) (inr l);
-            }
+            record { size = met-size d w found x root-room low; tables = met-frame d w found x root-room low; past = met-past d w found x root-room low }
 
         pub gather-start : Searched ws b w (met b w found x) n found found (found + 1)
         gather-start = record {
@@ -140,7 +135,7 @@ module _ {ws : List ℕ} {ed : Edition} (acc : Accepted ed ws) {b : Bases} {word
             laid = based .laid;
             long = rw (length-set, length-set) long;
             small = small;
-            kept = λ i l k. refl;
+            kept = λ i l. refl;
             fore = omega arith;
             front = λ i l. refl;
             within = within;

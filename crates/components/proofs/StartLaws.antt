@@ -1,10 +1,9 @@
 -- From the first walk to the second: the order is there, every vertex of the graph is marked, and no flag is set.
-use mathlib.Core.Path.{_≡_, refl, ap, _∙_}
-use mathlib.Core.Logic.{_⊎_, inl, inr}
-use mathlib.Core.List.{List, _++_, List·Memᴰ·not-nil}
-use Prim.Native.Nat.{ℕ, _+_, _-_, _≤_, _<_}
+use mathlib.Core.Path.{_≡_, refl, _∙_}
+use mathlib.Core.List.{List, List·Memᴰ·not-nil}
+use Prim.Native.Nat.{ℕ, _+_, _≤_, _<_}
 use native.Mathlib.Omega.{arith}
-use lib.ListN.{length, getD, take, drop, replicate, length-replicate, getD-replicate, length-take, length-drop}
+use lib.ListN.{length, getD, take}
 use Rattle.theory.specs.Words.{theoryOf}
 use Rattle.theory.specs.Accepted.{Accepted, Edition}
 use Rattle.theory.specs.Edges.{inGraph, conePreds}
@@ -13,10 +12,10 @@ use Rattle.theory.specs.Prefix.{upto}
 use Rattle.theory.proofs.CollectLaws.{swept-start}
 use Rattle.area.specs.declared.Bases.{Bases}
 use Rattle.area.specs.Layout.{Based}
-use Rattle.area.proofs.PartLaws.{part-length, part-before, part-at, frame-at, frame-less}
+use Rattle.area.proofs.PartLaws.{frame-at, frame-less}
+use Rattle.area.proofs.FillLaws.{Filled}
 use Rattle.events.specs.Held.{Tables}
 use Rattle.area.specs.Marks.{markOf, markIn}
-use Rattle.area.proofs.MarkLaws.{mark-place}
 use Rattle.events.proofs.VertexLaws.{tables-same}
 use Rattle.finishing.specs.Latest.{latest}
 use Rattle.finishing.specs.Finished.{Finished}
@@ -24,50 +23,25 @@ use Rattle.components.specs.Classes.{Sweeping, Classified, ordered}
 use Rattle.components.proofs.GatherLaws.{within, count, ordered-same}
 
 module _ {ws : List ℕ} {ed : Edition} (acc : Accepted ed ws) {b : Bases} {w₀ w : List ℕ} (based : Based ws (length w₀) b) (t : Tables (theoryOf ws) b w₀) {r : ℕ} (f : Finished ws b w₀ w r) where
-  short : b .«cyclic_atoms» ≤ b .end
-  short = let l = based .laid in omega arith
+  pub flags-part : (b .«cyclic_atoms» ≤ b .end) × (b .end ≤ length w)
+  flags-part = let l = based .laid in let e = based .ends in let k = f .kept .size in (omega arith, omega arith)
 
-  long : b .end ≤ length w
-  long = let e = based .ends in let k = f .kept .size in omega arith
-
-  -- the flags' part of the area comes back cleared, as q
-  module _ {q : List ℕ} (zero′ : q ≡ replicate (length (take (b .end - b .«cyclic_atoms») (drop (b .«cyclic_atoms») w))) 0)
-      {w₁ : List ℕ} (e : w₁ ≡ take (b .«cyclic_atoms») w ++ (q ++ drop (b .end - b .«cyclic_atoms») (drop (b .«cyclic_atoms») w))) where
-    size : length q ≡ b .end - b .«cyclic_atoms»
-    size = let k = long in ap length zero′ ∙ simp (length-replicate, length-take, length-drop) (omega arith)
-
-    size₁ : length w₁ ≡ length w
-    size₁ = rw e (part-length (b .«cyclic_atoms») (b .end) w q short long size)
-
-    frame₁ : take (b .«cyclic_atoms») w₁ ≡ take (b .«cyclic_atoms») w
-    frame₁ = rw e (part-before (b .«cyclic_atoms») (b .end) w q short long size)
-
-    zero₁ : (a : ℕ) → a < b .atoms → getD w₁ (b .«cyclic_atoms» + a) 0 ≡ 0
-    zero₁ a l =
-        let d = based .laid in let k = long in let n = size in
-        rw e
-        (part-at (b .«cyclic_atoms») (b .end) w q short long size a (omega arith)
-        ∙ ap (λ (x : List ℕ). getD x a 0) zero′
-        ∙ getD-replicate (length (take (b .end - b .«cyclic_atoms») (drop (b .«cyclic_atoms») w))) a 0 0 (simp (length-take, length-drop) (omega arith)))
-
+  -- the flags are cleared
+  module _ {w₁ : List ℕ} (c : Filled (b .«cyclic_atoms») (b .end) 0 w w₁) where
     before : (i : ℕ) → i < b .«cyclic_atoms» → getD w₁ i 0 ≡ getD w i 0
-    before i l = frame-at (b .«cyclic_atoms») w w₁ frame₁ i l
+    before i l = frame-at (b .«cyclic_atoms») w w₁ (c .before) i l
 
     marks₁ : (v : ℕ) → v < b .atoms + b .nodes → markIn b w₁ v ≡ markIn b w v
-    marks₁ v l = go (mark-place (based .laid) v l .2)
-      where
-        go : (markOf b v < b .dependencies) ⊎ ((b .«founded_atoms» ≤ markOf b v) × (markOf b v < b .«cyclic_atoms»)) → getD w₁ (markOf b v) 0 ≡ getD w (markOf b v) 0
-        go (inl p) = let q = based .laid in before (markOf b v) (omega arith)
-        go (inr p) = before (markOf b v) (p .1)
+    marks₁ v l = let q = based .laid in before (markOf b v) (omega arith)
 
     tables₁ : take (b .states) w₁ ≡ take (b .states) w₀
-    tables₁ = let q = based .laid in frame-less (b .«cyclic_atoms») w w₁ frame₁ (b .states) (omega arith) ∙ f .kept .tables
+    tables₁ = let q = based .laid in frame-less (b .«cyclic_atoms») w w₁ (c .before) (b .states) (omega arith) ∙ f .kept .tables
 
     pub sizes : length w₁ ≡ length w₀
-    sizes = size₁ ∙ f .kept .size
+    sizes = c .size ∙ f .kept .size
 
     order₁ : ordered b w₁ r ≡ latest w (b .«body_nodes») r
-    order₁ = let q = based .laid in let k = f .count in let c = count acc based in ordered-same b r w w₁ (λ i l. before (b .«body_nodes» + i) (omega arith))
+    order₁ = let q = based .laid in let k = f .count in let n = count acc based in ordered-same b r w w₁ (λ i l. before (b .«body_nodes» + i) (omega arith))
 
     bound : Ordered (b .atoms + b .nodes) (conePreds (theoryOf ws)) (inGraph (theoryOf ws)) (ordered b w₁ r)
     bound = rw (order₁, ← count acc based) (f .ordered)
@@ -75,7 +49,7 @@ module _ {ws : List ℕ} {ed : Edition} (acc : Accepted ed ws) {b : Bases} {w₀
     pub sweep-begin : Sweeping ws b w₁ w₁ r 0
     unfolding upto
     sweep-begin =
-        let c = count acc based in
+        let n = count acc based in
         record {
           size = refl;
           tables = refl;
@@ -86,7 +60,7 @@ module _ {ws : List ℕ} {ed : Edition} (acc : Accepted ed ws) {b : Bases} {w₀
             swept = swept-start (b .atoms + b .nodes) (conePreds (theoryOf ws)) (inGraph (theoryOf ws)) (within acc based) bound
                 (λ v l g. marks₁ v l ∙ f .marks .outside v (omega arith) g) (λ v l g. marks₁ v l ∙ f .marks .inside v (omega arith) g);
           };
-          flags = record { yes = λ a l m c. absurd (List·Memᴰ·not-nil m); no = λ a l h. zero₁ a l };
+          flags = record { yes = λ a l m y. absurd (List·Memᴰ·not-nil m); no = λ a l h. let q = based .laid in c .at (b .«cyclic_atoms» + a) (omega arith) (omega arith) };
         }
 
     pub sweep-finish : {w₂ : List ℕ} → Classified ws b w₁ w₂ → Classified ws b w₀ w₂

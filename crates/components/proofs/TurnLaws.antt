@@ -1,6 +1,5 @@
 -- A search of the second walk goes on, member by member, and ends with a component.
 use mathlib.Core.Path.{_≡_, refl, sym, ap, ap₂, _∙_}
-use mathlib.Core.Logic.{inl, inr}
 use mathlib.Core.List.{List, [], _∷_, _++_, Memᴰ·append-left}
 use Prim.Native.Nat.{ℕ, suc, _+_, _-_, _≤_, _<_}
 use native.Mathlib.Omega.{arith}
@@ -57,7 +56,7 @@ module _ {ws : List ℕ} {ed : Edition} (acc : Accepted ed ws) {b : Bases} {word
       laid = r .held .laid;
       long = r .held .long;
       small = r .held .small;
-      kept = λ i l k. refl;
+      kept = λ i l. refl;
       fore = omega arith;
       front = λ i l. refl;
       within = g .within;
@@ -91,8 +90,7 @@ module _ {ws : List ℕ} {ed : Edition} (acc : Accepted ed ws) {b : Bases} {word
             kept = record {
               size = d .size ∙ r .kept .size;
               tables = d .frame ∙ r .kept .tables;
-              order = λ i p q. k .kept i p (inl q) ∙ r .kept .order i p q;
-              flags = λ i p. k .kept i (omega arith) (inr p) ∙ r .kept .flags i p;
+              past = λ i p. k .kept i p ∙ r .kept .past i p;
             };
             after = omega arith;
             ahead = omega arith;
@@ -101,7 +99,7 @@ module _ {ws : List ℕ} {ed : Edition} (acc : Accepted ed ws) {b : Bases} {word
               laid = k .laid;
               long = k .long;
               small = k .small;
-              kept = λ i p q. refl;
+              kept = λ i p. refl;
               fore = omega arith;
               front = λ i p. refl;
               within = k .within;
@@ -119,7 +117,7 @@ module _ {ws : List ℕ} {ed : Edition} (acc : Accepted ed ws) {b : Bases} {word
     whole = let a = r .after in let q = r .ahead in let e : found + (tail - found) ≡ tail = omega arith in ap (λ (x : ℕ). upto x (drop (b .queue) w)) (sym e) ∙ upto-split found (tail - found) (drop (b .queue) w)
 
     order-same : ordered b w n ≡ ordered b w₀ n
-    order-same = let f = s .fits in let l = based .laid in ordered-same b n w₀ w (λ i p. r .kept .order (b .«body_nodes» + i) (omega arith) (omega arith))
+    order-same = ordered-same b n w₀ w (λ i p. r .kept .past (b .«body_nodes» + i) (omega arith))
 
     pub gather-end : Gathered ws b w₀ w n found tail
     gather-end = record {
@@ -145,14 +143,14 @@ module _ {ws : List ℕ} {ed : Edition} (acc : Accepted ed ws) {b : Bases} {word
 
 module _ {b : Bases} (laid : Laid b) {w₀ w₁ : List ℕ} (k : Kept b w₀ w₁) (n : ℕ) (fits : n + 1 ≤ b .atoms + b .nodes) where
   root-same : getD w₁ (b .«body_nodes» + n) 0 ≡ getD w₀ (b .«body_nodes» + n) 0
-  root-same = k .order (b .«body_nodes» + n) (omega arith) (omega arith)
+  root-same = k .past (b .«body_nodes» + n) (omega arith)
 
   order-kept : ordered b w₁ n ≡ ordered b w₀ n
-  order-kept = ordered-same b n w₀ w₁ (λ i l. k .order (b .«body_nodes» + i) (omega arith) (omega arith))
+  order-kept = ordered-same b n w₀ w₁ (λ i l. k .past (b .«body_nodes» + i) (omega arith))
 
   pub search-restart : {ws : List ℕ} {found : ℕ} → Searched ws b w₀ w₁ n found found (found + 1) → Searched ws b w₁ w₁ n found found (found + 1)
   search-restart r = record {
-    kept = record { size = refl; tables = refl; order = λ i l h. refl; flags = λ i l. refl };
+    kept = record { size = refl; tables = refl; past = λ i l. refl };
     after = r .after;
     ahead = r .ahead;
     front = λ i l. refl;
@@ -164,8 +162,7 @@ module _ {b : Bases} (laid : Laid b) {w₀ w₁ : List ℕ} (k : Kept b w₀ w�
     kept = record {
       size = r .kept .size ∙ k .size;
       tables = r .kept .tables ∙ k .tables;
-      order = λ i l h. r .kept .order i l h ∙ k .order i l h;
-      flags = λ i l. r .kept .flags i l ∙ k .flags i l;
+      past = λ i l. r .kept .past i l ∙ k .past i l;
     };
     after = r .after;
     ahead = r .ahead;

@@ -37,12 +37,11 @@ pub record Flagged (ws : List ℕ) (b : Bases) (w : List ℕ) (seen : List ℕ) 
   pub yes : (a : ℕ) → a < b .atoms → Mem a seen → Is (cyclic (theoryOf ws) a) → flagAt b w a ≡ 1
   pub no : (a : ℕ) → a < b .atoms → (Mem a seen → Is (cyclic (theoryOf ws) a) → ⊥) → flagAt b w a ≡ 0
 
--- past the queue nothing but marks has changed
+-- past the queue nothing has changed
 pub record Kept (b : Bases) (w₀ w : List ℕ) : Type 0 where
   pub size : length w ≡ length w₀
   pub tables : take (b .states) w ≡ take (b .states) w₀
-  pub order : (i : ℕ) → b .«body_nodes» ≤ i → i < b .«founded_atoms» → getD w i 0 ≡ getD w₀ i 0
-  pub flags : (i : ℕ) → b .«cyclic_atoms» ≤ i → getD w i 0 ≡ getD w₀ i 0
+  pub past : (i : ℕ) → b .«body_nodes» ≤ i → getD w i 0 ≡ getD w₀ i 0
 
 -- a search: from one count of the queue to another it is a component
 pub record Gathered (ws : List ℕ) (b : Bases) (w₀ w : List ℕ) (n found tail : ℕ) : Type 0 where

@@ -1,6 +1,5 @@
 -- What the words hold while the entries of a row are collected: marks and the queue.
 use mathlib.Core.Path.{_≡_}
-use mathlib.Core.Logic.{_⊎_}
 use mathlib.Core.List.{List}
 use Prim.Native.Nat.{ℕ, _+_, _-_, _≤_, _<_}
 use lib.ListN.{length, getD, drop}
@@ -28,8 +27,8 @@ pub record Gathering (lim : ℕ) (b : Bases) (c : Ctx) (w : List ℕ) (t : ℕ) 
   pub laid : Laid b
   pub long : b .end ≤ length w
   pub small : b .atoms + b .nodes < lim
-  -- past the queue nothing but marks changes
-  pub kept : (i : ℕ) → b .«body_nodes» ≤ i → (i < b .«founded_atoms») ⊎ (b .«cyclic_atoms» ≤ i) → getD w i 0 ≡ getD (c .base) i 0
+  -- past the queue nothing changes
+  pub kept : (i : ℕ) → b .«body_nodes» ≤ i → getD w i 0 ≡ getD (c .base) i 0
   -- and the vertices that were on the queue stay
   pub fore : c .front ≤ t
   pub front : (i : ℕ) → i < c .front → getD w (b .queue + i) 0 ≡ getD (c .base) (b .queue + i) 0

@@ -18,7 +18,7 @@ fn collect(work: &mut [u16], b: Bases, v: usize, tail: usize) -> usize
     requires { ⌜ Follows (Gathering 65536 b) (now work) tail (v ∷ []) ⌝ }
     ensures { λ r. ⌜ Drives (Gathering 65536 b) (b .states) (now (work .entry)) tail (v ∷ []) (now (work .exit)) r [] ⌝ }
 {
-    let m = area::mark(b, v);
+    let m = b.states + v;
     if graph::at(work, m) != 2 {
         return tail;
     }

@@ -34,7 +34,7 @@ fn gather(graph: &[u16], work: &mut [u16], b: Bases, n: usize, found: usize) -> 
     ensures { λ r. ⌜ Gathered (now (graph .entry)) b (now (work .entry)) (now (work .exit)) n found r ⌝ }
 {
     let root = graph::at(work, b.body_nodes + n);
-    let m = area::mark(b, root);
+    let m = b.states + root;
     if graph::at(work, m) != 2 {
         return found;
     }

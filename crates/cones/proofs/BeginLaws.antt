@@ -1,14 +1,14 @@
--- The producers, one after the other: the start (`cleared-kept`, `cleared-marks`, `begun-start`), one that is not wanted (`begun-skip`), one with a body (`begun-follows`, `begun-body`) and a fact
+-- The producers, one after the other: the start (`marks-part`, `cleared-kept`, `cleared-marks`, `begun-start`), one that is not wanted (`begun-skip`), one with a body (`begun-follows`, `begun-body`) and a fact
 -- (`begun-fact`). What one step keeps and the next keeps, both keep (`kept-trans`); the flags are kept (`kept-flags`).
 use mathlib.Core.Path.{_≡_, refl, sym, ap, _∙_, subst}
 use mathlib.Core.Bool.{Bool, true, false, not}
 use mathlib.Core.List.{List, [], _∷_, _++_, List·Memᴰ·head, List·Memᴰ·not-nil, List·Memᴰ·eq-of-singleton}
-use Prim.Native.Nat.{ℕ, suc, _+_, _-_, _*_, _≤_, _<_, zero-le}
+use Prim.Native.Nat.{ℕ, suc, _+_, _-_, _≤_, _<_, zero-le}
 use native.Mathlib.Numerals.{add-one}
 use native.Mathlib.Omega.{arith}
 use borrow.Author.Tests.{eq-eqb, ne-eqb, not-true, not-false}
 use lib.Dec.{eqb}
-use lib.ListN.{length, getD, set, take, drop, replicate, length-set, length-take, length-drop, length-replicate, getD-replicate}
+use lib.ListN.{length, getD, set, take, drop, length-set}
 use lib.Seq.{getD-set-other, getD-drop, take-set-le, drop-set-lt}
 use Rattle.theory.specs.Sets.{Is, Set, Mem, members}
 use Rattle.theory.specs.Theory.{Theory, WellFormed}
@@ -20,10 +20,12 @@ use Rattle.theory.proofs.SetLaws.{clash, and-intro, and-left, and-right, is-fal
 use Rattle.theory.proofs.EdgeLaws.{cone-body}
 use Rattle.area.specs.declared.Bases.{Bases}
 use Rattle.area.specs.Layout.{Laid, Based}
-use Rattle.area.proofs.PartLaws.{part-length, part-before, part-after, part-at}
+use Rattle.area.specs.Marks.{markOf}
+use Rattle.area.proofs.PartLaws.{frame-less}
+use Rattle.area.proofs.FillLaws.{Filled}
 use Rattle.area.proofs.ListLaws.{list-more, list-after, drop-later}
 use Rattle.cones.specs.declared.Cone.{Cone}
-use Rattle.cones.specs.Cones.{markOf, nodesOf, wantedBy, factBy, Flagged, Kept, Held}
+use Rattle.cones.specs.Cones.{nodeMark, nodesOf, wantedBy, factBy, Flagged, Kept, Held}
 use Rattle.cones.specs.Finding.{Finding, stage, Searching, Begun}
 use Rattle.cones.proofs.FindLaws.{find-start, find-same, find-producer}
 use Rattle.cones.proofs.FactLaws.{members-in, members-out}
@@ -38,27 +40,19 @@ kept-trans k l = record { size = l .size ∙ k .size; tables = l .tables ∙ k .
 pub kept-flags : (th : Theory) {b : Bases} {w w′ : List ℕ} → Kept b w w′ → Flagged th b w → Flagged th b w′
 kept-flags th {b} {w} {w′} k f a l = rw (sym (getD-drop (b .«cyclic_atoms») w′ a 0) ∙ ap (λ (x : List ℕ). getD x a 0) (k .flags) ∙ getD-drop (b .«cyclic_atoms») w a 0) (f a l)
 
--- the states' part of the area comes back cleared, as q
-module _ {b : Bases} (laid : Laid b) (w : List ℕ) {q : List ℕ} (ends : b .end ≤ length w) (zero′ : q ≡ replicate (length (take (b .dependencies - b .states) (drop (b .states) w))) 0) where
-  size : length q ≡ b .dependencies - b .states
-  size = ap length zero′ ∙ simp (length-replicate, length-take, length-drop) (omega arith)
+-- the nodes' marks are cleared
+pub marks-part : {b : Bases} {words : ℕ} → Laid b → b .end ≤ words → (b .states + b .atoms ≤ b .states + b .atoms + b .nodes) × (b .states + b .atoms + b .nodes ≤ words)
+marks-part laid ends = (omega arith, omega arith)
 
-  pub cleared-kept : Kept b w (take (b .states) w ++ (q ++ drop (b .dependencies - b .states) (drop (b .states) w)))
-  cleared-kept = record {
-    size = part-length (b .states) (b .dependencies) w q (omega arith) (omega arith) size;
-    tables = part-before (b .states) (b .dependencies) w q (omega arith) (omega arith) size;
-    flags = part-after (b .states) (b .dependencies) w q (omega arith) (omega arith) size (b .«cyclic_atoms») (omega arith);
-  }
+module _ {b : Bases} (laid : Laid b) {w w′ : List ℕ} (c : Filled (b .states + b .atoms) (b .states + b .atoms + b .nodes) 0 w w′) where
+  pub cleared-kept : Kept b w w′
+  cleared-kept = record { size = c .size; tables = frame-less (b .states + b .atoms) w w′ (c .before) (b .states) (omega arith); flags = c .after (b .«cyclic_atoms») (omega arith) }
 
-  pub cleared-marks : (n : ℕ) → n < b .nodes → markOf b (take (b .states) w ++ (q ++ drop (b .dependencies - b .states) (drop (b .states) w))) n ≡ 0
-  cleared-marks n l =
-      let k = size in
-      part-at (b .states) (b .dependencies) w q (omega arith) (omega arith) size (2 * n) (omega arith)
-      ∙ ap (λ (x : List ℕ). getD x (2 * n) 0) zero′
-      ∙ getD-replicate (length (take (b .dependencies - b .states) (drop (b .states) w))) (2 * n) 0 0 (simp (length-take, length-drop) (omega arith))
+  pub cleared-marks : (n : ℕ) → n < b .nodes → nodeMark b w′ n ≡ 0
+  cleared-marks n l = c .at (markOf b (b .atoms + n)) (omega arith) (omega arith)
 
 pub begun-start : {lim : ℕ} {ed : Edition} → ed .counts ≤ lim → {ws : List ℕ} → Accepted ed ws → {b : Bases} {w : List ℕ} → Based ws (length w) b → (m : Bool)
-    → ((n : ℕ) → n < b .nodes → markOf b w n ≡ 0) → Begun lim (theoryOf ws) m b w 0 (record { nodes = 0; facts = 0 })
+    → ((n : ℕ) → n < b .nodes → nodeMark b w n ≡ 0) → Begun lim (theoryOf ws) m b w 0 (record { nodes = 0; facts = 0 })
 unfolding theoryOf members
 begun-start le acc base m zeros = record {
   search = record {
@@ -169,14 +163,14 @@ module _ {lim : ℕ} {th : Theory} {m : Bool} {b : Bases} {w : List ℕ} {p : �
         room : at < length w
         room = let l = s .search .laid in let h = s .search .ends in let f = s .listed in let q = s .producers in omega arith
 
-        finding : Finding th (wantedBy th m) (p + 1) (nodesOf b (set w at p) (c .nodes)) [] [] (markOf b (set w at p))
+        finding : Finding th (wantedBy th m) (p + 1) (nodesOf b (set w at p) (c .nodes)) [] [] (nodeMark b (set w at p))
         finding =
             let l = s .search .laid in
             let o = s .search .room in
             let q = s .search .nodes in
             rw (list-after (b .«body_nodes») (c .nodes) w at p (omega arith), add-one)
             (find-same (find-producer (s .search .finding) [] (λ n i. absurd (List·Memᴰ·not-nil i)) (λ n y h. absurd (omega arith)))
-            (λ n h. getD-set-other w at (b .states + 2 * n) p 0 (λ y. omega arith)))
+            (λ n h. getD-set-other w at (markOf b (b .atoms + n)) p 0 (λ y. omega arith)))
 
 -- the search has ended
 pub held-end : {lim : ℕ} {th : Theory} {m : Bool} {b : Bases} {w w′ : List ℕ} {next count : ℕ} {c : Cone} → Begun lim th m b w (th .producers) c

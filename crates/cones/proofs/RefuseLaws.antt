@@ -15,7 +15,7 @@ use Rattle.theory.proofs.SetLaws.{bool-cases, clash, and-intro, and-left, and-r
 use Rattle.theory.proofs.EdgeLaws.{cone-bound}
 use Rattle.area.specs.declared.Bases.{Bases}
 use Rattle.cones.specs.declared.Coned.the-variants.{Done, Absorbed as Refused}
-use Rattle.cones.specs.Cones.{markOf, Found, bodyConed}
+use Rattle.cones.specs.Cones.{nodeMark, Found, bodyConed}
 
 -- kind 7 is the absorbed one
 pub absorbed-is : (k : ℕ) → k ≤ 7 → absorbed (kindOf k) ≡ eqb k 7
@@ -40,14 +40,14 @@ is-absorbed Opaque h = clash refl (sym h)
 is-absorbed Absorbed h = refl
 
 module _ {th : Theory} {b : Bases} {w : List ℕ} {count : ℕ} (f : Found th (bodyCone th) b w count) where
-  pub refused-out : {n : ℕ} → n < th .nodes → markOf b w n ≡ 0 → false ≡ bodyCone th n && absorbed (th .kind n)
+  pub refused-out : {n : ℕ} → n < th .nodes → nodeMark b w n ≡ 0 → false ≡ bodyCone th n && absorbed (th .kind n)
   refused-out {n} l z = go (bool-cases (bodyCone th n))
     where
       go : (bodyCone th n ≡ true) ⊎ (bodyCone th n ≡ false) → false ≡ bodyCone th n && absorbed (th .kind n)
       go (inl e) = let k = f .marks n l ∙ ap (λ (t : Bool). cond t 1 0) e in absurd (omega arith)
       go (inr e) = sym (ap (λ (t : Bool). t && absorbed (th .kind n)) e)
 
-  pub refused-in : {n k : ℕ} → n < th .nodes → (markOf b w n ≡ 0 → ⊥) → th .kind n ≡ kindOf k → k ≤ 7 → eqb k 7 ≡ bodyCone th n && absorbed (th .kind n)
+  pub refused-in : {n k : ℕ} → n < th .nodes → (nodeMark b w n ≡ 0 → ⊥) → th .kind n ≡ kindOf k → k ≤ 7 → eqb k 7 ≡ bodyCone th n && absorbed (th .kind n)
   refused-in {n} {k} l z e h = go (bool-cases (bodyCone th n))
     where
       go : (bodyCone th n ≡ true) ⊎ (bodyCone th n ≡ false) → eqb k 7 ≡ bodyCone th n && absorbed (th .kind n)

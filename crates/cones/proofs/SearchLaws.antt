@@ -4,7 +4,7 @@ use mathlib.Core.Path.{_≡_, refl, sym, ap, _∙_}
 use mathlib.Core.Logic.{_⊎_, inl, inr, _≢_}
 use mathlib.Core.Bool.{Bool, true, false, cond}
 use mathlib.Core.List.{List, [], _∷_, _++_, append-nil, List·Memᴰ·not-nil}
-use Prim.Native.Nat.{ℕ, zero, suc, _+_, _-_, _*_, _≤_, _<_}
+use Prim.Native.Nat.{ℕ, zero, suc, _+_, _-_, _≤_, _<_}
 use native.Mathlib.Omega.{arith}
 use lib.ListN.{length, getD, set, drop, length-set, length-take, length-drop}
 use lib.Seq.{getD-set-same, getD-set-other, take-set-le, drop-set-lt}
@@ -18,8 +18,9 @@ use Rattle.theory.proofs.SetLaws.{bool-cases, mem-member, member-mem}
 use Rattle.graph.proofs.DecodeLaws.{the-leaves}
 use Rattle.area.specs.declared.Bases.{Bases}
 use Rattle.area.specs.Layout.{Laid}
+use Rattle.area.specs.Marks.{markOf}
 use Rattle.area.proofs.ListLaws.{list-more, list-before, list-after, list-entry, list-step}
-use Rattle.cones.specs.Cones.{markOf, nodesOf, Found}
+use Rattle.cones.specs.Cones.{nodeMark, nodesOf, Found}
 use Rattle.cones.specs.Finding.{Finding, Stage, stage, Searching}
 use Rattle.cones.proofs.FindLaws.{find-low, find-mark, find-skip, find-room, find-add, find-bound, find-leaves, find-end}
 
@@ -30,10 +31,10 @@ pub record Ready (lim : ℕ) (b : Bases) (w : List ℕ) (count n : ℕ) : Type 0
   pub low : n < b .nodes
   pub small : b .nodes ≤ lim
   pub room : count ≤ b .nodes
-  pub mark : markOf b w n ≤ 1
+  pub mark : nodeMark b w n ≤ 1
 
 module _ {lim : ℕ} {b : Bases} {w : List ℕ} {count n : ℕ} where
-  search-room : {c : Stage} {todo : List ℕ} → Searching lim b c w count (n ∷ todo) → markOf b w n ≡ 0 → count < b .nodes
+  search-room : {c : Stage} {todo : List ℕ} → Searching lim b c w count (n ∷ todo) → nodeMark b w n ≡ 0 → count < b .nodes
   search-room s z =
       let l = s .laid in
       let e = s .ends in
@@ -56,38 +57,38 @@ module _ {lim : ℕ} {b : Bases} {w : List ℕ} {count n : ℕ} where
   module _ (r : Ready lim b w count n) where
     -- n is marked, and stored behind the list
     abbrev marked : List ℕ
-    marked = set w (b .states + 2 * n) 1
+    marked = set w (markOf b (b .atoms + n)) 1
 
     abbrev included : List ℕ
     included = set marked (b .«body_nodes» + count) n
 
     included-size : length included ≡ length w
-    included-size = length-set marked (b .«body_nodes» + count) n ∙ length-set w (b .states + 2 * n) 1
+    included-size = length-set marked (b .«body_nodes» + count) n ∙ length-set w (markOf b (b .atoms + n)) 1
 
     included-same : (k : ℕ) → k ≤ count → nodesOf b included k ≡ nodesOf b w k
     included-same k h =
         let l = r .laid in let q = r .low in let e = r .room in
-        list-after (b .«body_nodes») k marked (b .«body_nodes» + count) n (omega arith) ∙ list-before (b .«body_nodes») k w (b .states + 2 * n) 1 (omega arith)
+        list-after (b .«body_nodes») k marked (b .«body_nodes» + count) n (omega arith) ∙ list-before (b .«body_nodes») k w (markOf b (b .atoms + n)) 1 (omega arith)
 
-    here : markOf b included n ≡ 1
+    here : nodeMark b included n ≡ 1
     here =
         let l = r .laid in let q = r .low in let e = r .ends in
-        getD-set-other marked (b .«body_nodes» + count) (b .states + 2 * n) n 0 (λ e. omega arith) ∙ getD-set-same w (b .states + 2 * n) 1 0 (omega arith)
+        getD-set-other marked (b .«body_nodes» + count) (markOf b (b .atoms + n)) n 0 (λ e. omega arith) ∙ getD-set-same w (markOf b (b .atoms + n)) 1 0 (omega arith)
 
-    others : {c : Stage} {more : List ℕ} → Searching lim b c w count (n ∷ more) → (m : ℕ) → m < c .theory .nodes → m ≢ n → markOf b included m ≡ markOf b w m
+    others : {c : Stage} {more : List ℕ} → Searching lim b c w count (n ∷ more) → (m : ℕ) → m < c .theory .nodes → m ≢ n → nodeMark b included m ≡ nodeMark b w m
     others s m l d =
         let k = r .laid in let q = s .nodes in
-        getD-set-other marked (b .«body_nodes» + count) (b .states + 2 * m) n 0 (λ e. omega arith)
-        ∙ getD-set-other w (b .states + 2 * n) (b .states + 2 * m) 1 0 (λ e. d (omega arith))
+        getD-set-other marked (b .«body_nodes» + count) (markOf b (b .atoms + m)) n 0 (λ e. omega arith)
+        ∙ getD-set-other w (markOf b (b .atoms + n)) (markOf b (b .atoms + m)) 1 0 (λ e. d (omega arith))
 
     -- the search is held with n found and k nodes listed
     driven : {k : ℕ} → ((c : Stage) (more : List ℕ) → Searching lim b c w count (n ∷ more) → (k ≤ b .nodes) × (count ≤ k)
-        × Finding (c .theory) (c .wanted) (c .below) (nodesOf b included k) (nodesOf b w (c .next)) more (markOf b included))
+        × Finding (c .theory) (c .wanted) (c .below) (nodesOf b included k) (nodesOf b w (c .next)) more (nodeMark b included))
         → Drives (Searching lim b) (b .states) w count (n ∷ []) included k []
     driven next =
         let l = r .laid in let q = r .low in let o = r .room in
         record {
-          frame = take-set-le (b .states) marked (b .«body_nodes» + count) n (omega arith) ∙ take-set-le (b .states) w (b .states + 2 * n) 1 (omega arith);
+          frame = take-set-le (b .states) marked (b .«body_nodes» + count) n (omega arith) ∙ take-set-le (b .states) w (markOf b (b .atoms + n)) 1 (omega arith);
           size = included-size;
           keeps = λ c more s. let f = next c more s in record {
             laid = r .laid;
@@ -97,18 +98,18 @@ module _ {lim : ℕ} {b : Bases} {w : List ℕ} {count n : ℕ} where
             behind = let h = s .behind in let k = f .1 in omega arith;
             room = f .0;
             finding = rw (included-same (c .next) (s .behind)) (f .2);
-            beyond = drop-set-lt (b .«fact_rows») marked (b .«body_nodes» + count) n (omega arith) ∙ drop-set-lt (b .«fact_rows») w (b .states + 2 * n) 1 (omega arith) ∙ s .beyond;
+            beyond = drop-set-lt (b .«fact_rows») marked (b .«body_nodes» + count) n (omega arith) ∙ drop-set-lt (b .«fact_rows») w (markOf b (b .atoms + n)) 1 (omega arith) ∙ s .beyond;
           };
         }
 
     -- whether n was marked before, x, is all that the count depends on
-    pub search-include : (x : ℕ) → x ≡ markOf b w n → Drives (Searching lim b) (b .states) w count (n ∷ []) included (count + 1 - x) []
+    pub search-include : (x : ℕ) → x ≡ nodeMark b w n → Drives (Searching lim b) (b .states) w count (n ∷ []) included (count + 1 - x) []
     search-include zero e =
         let l = r .laid in let q = r .low in let o = r .room in let z = r .ends in
         let k : count + 1 - 0 ≡ count + 1 = omega arith in
         let more =
         list-more (b .«body_nodes») count marked n (rw length-set (omega arith))
-        ∙ ap (λ (l : List ℕ). l ++ (n ∷ [])) (list-before (b .«body_nodes») count w (b .states + 2 * n) 1 (omega arith)) in
+        ∙ ap (λ (l : List ℕ). l ++ (n ∷ [])) (list-before (b .«body_nodes») count w (markOf b (b .atoms + n)) 1 (omega arith)) in
         rw k (driven (λ c rest s. (let h = search-room s (sym e) in omega arith, omega arith, rw more (find-add (s .finding) (sym e) here (others s)))))
     search-include (suc x) e =
         let m = r .mark in
@@ -118,7 +119,7 @@ module _ {lim : ℕ} {b : Bases} {w : List ℕ} {count n : ℕ} where
 
 -- the same nodes are found, and other ones may come next
 pub search-on : {lim : ℕ} {b : Bases} {c : Stage} {w : List ℕ} {count : ℕ} {todo : List ℕ} → Searching lim b c w count todo → {p next : ℕ} {rest w′ todo′ : List ℕ} → length w′ ≡ length w → next ≤ count
-    → Finding (c .theory) (c .wanted) p (nodesOf b w′ count) (nodesOf b w′ next) todo′ (markOf b w′) → drop (b .«fact_rows») w′ ≡ rest → Searching lim b (stage (c .theory) (c .wanted) p next rest) w′ count todo′
+    → Finding (c .theory) (c .wanted) p (nodesOf b w′ count) (nodesOf b w′ next) todo′ (nodeMark b w′) → drop (b .«fact_rows») w′ ≡ rest → Searching lim b (stage (c .theory) (c .wanted) p next rest) w′ count todo′
 search-on s size behind finding beyond = record {
   laid = s .laid;
   ends = rw size (s .ends);

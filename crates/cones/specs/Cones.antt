@@ -3,7 +3,7 @@ use mathlib.Core.Path.{_≡_}
 use mathlib.Core.Logic.{_↔_}
 use mathlib.Core.Bool.{Bool, true, false, _&&_, cond}
 use mathlib.Core.List.{List}
-use Prim.Native.Nat.{ℕ, _+_, _*_, _≤_, _<_}
+use Prim.Native.Nat.{ℕ, _+_, _≤_, _<_}
 use lib.Dec.{eqb}
 use lib.ListN.{length, getD, take, drop}
 use Rattle.theory.specs.Sets.{Is, Set, Mem, any, filled, members}
@@ -12,13 +12,14 @@ use Rattle.theory.specs.Theory.{Theory, Kind}
 use Rattle.theory.specs.Edges.{bodyCone}
 use Rattle.theory.specs.Founded.{cyclic, cyclicCone}
 use Rattle.area.specs.declared.Bases.{Bases}
+use Rattle.area.specs.Marks.{markIn}
 use Rattle.cones.specs.declared.Cone.{Cone}
 use Rattle.cones.specs.declared.Coned.{Coned}
 use Rattle.cones.specs.declared.Coned.the-variants.{Done, Absorbed}
 
 -- the mark of a node, the first so many nodes of the cone's list, and the first so many facts
-abbrev pub markOf : Bases → List ℕ → ℕ → ℕ
-markOf b w n = getD w (b .states + 2 * n) 0
+abbrev pub nodeMark : Bases → List ℕ → ℕ → ℕ
+nodeMark b w n = markIn b w (b .atoms + n)
 
 abbrev pub nodesOf : Bases → List ℕ → ℕ → List ℕ
 nodesOf b w n = take n (drop (b .«body_nodes») w)
@@ -45,7 +46,7 @@ module _ (th : Theory) where
 
   -- the set s of nodes: a mark each, 1 in s and 0 outside, and a list of them without repeats
   pub record Found (s : Set) (b : Bases) (w : List ℕ) (count : ℕ) : Type 0 where
-    pub marks : (n : ℕ) → n < th .nodes → markOf b w n ≡ cond (s n) 1 0
+    pub marks : (n : ℕ) → n < th .nodes → nodeMark b w n ≡ cond (s n) 1 0
     pub within : count ≤ th .nodes
     pub once : Distinct (nodesOf b w count)
     pub lists : (n : ℕ) → Mem n (nodesOf b w count) ↔ Is (s n)

@@ -13,7 +13,7 @@ use Rattle.theory.specs.Edges.{cone}
 use Rattle.area.specs.declared.Bases.{Bases}
 use Rattle.area.specs.Layout.{Laid}
 use Rattle.cones.specs.declared.Cone.{Cone}
-use Rattle.cones.specs.Cones.{markOf, nodesOf, factsOf, wantedBy, factBy}
+use Rattle.cones.specs.Cones.{nodeMark, nodesOf, factsOf, wantedBy, factBy}
 
 module _ (th : Theory) (wanted : Set) where
   -- n is the body of a wanted producer below p, or a leaf of a node in begun
@@ -48,7 +48,7 @@ pub record Searching (lim : ℕ) (b : Bases) (c : Stage) (w : List ℕ) (count :
   pub small : b .nodes ≤ lim
   pub behind : c .next ≤ count
   pub room : count ≤ b .nodes
-  pub finding : Finding (c .theory) (c .wanted) (c .below) (nodesOf b w count) (nodesOf b w (c .next)) todo (markOf b w)
+  pub finding : Finding (c .theory) (c .wanted) (c .below) (nodesOf b w count) (nodesOf b w (c .next)) todo (nodeMark b w)
   pub beyond : drop (b .«fact_rows») w ≡ c .rest
 
 -- the producers below p have been looked at: the bodies of the wanted ones are found, and the facts among them listed

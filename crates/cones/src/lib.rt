@@ -13,7 +13,7 @@ ghost use Rattle.theory.specs.Edges.{cone, bodyCone};
 ghost use Rattle.theory.specs.Accepted.{Accepted, edition1};
 ghost use Rattle.theory.specs.Drive.{Follows, Drives};
 ghost use Rattle.area.specs.Layout.{Laid, basesOf, Based};
-ghost use Rattle.cones.specs.Cones.{markOf, wantedBy, factBy, Flagged, Found, Kept, Held, bodyConed, cyclicConed};
+ghost use Rattle.cones.specs.Cones.{nodeMark, wantedBy, factBy, Flagged, Found, Kept, Held, bodyConed, cyclicConed};
 ghost use Rattle.cones.specs.Finding.{Searching, Begun};
 use area::Bases;
 
@@ -64,7 +64,7 @@ fn include(work: &mut [u16], b: Bases, n: usize, count: usize) -> usize
     requires { ⌜ Follows (Searching 65536 b) (now work) count (n ∷ []) ⌝ }
     ensures { λ r. ⌜ Drives (Searching 65536 b) (b .states) (now (work .entry)) count (n ∷ []) (now (work .exit)) r [] ⌝ }
 {
-    let mark = b.states + 2 * n;
+    let mark = b.states + (b.atoms + n);
     let found = graph::at(work, mark);
     area::put(work, mark, 1);
     area::put(work, b.body_nodes + count, n);
@@ -128,13 +128,13 @@ fn begin(graph: &[u16], work: &mut [u16], b: Bases, cyclic_only: bool) -> Cone
     c
 }
 
-// No node is in the cone.
+// No node is in the cone. The marks of atoms are not read here.
 fn clear_marks(work: &mut [u16], b: Bases)
     requires { ⌜ Laid b × (b .end ≤ length (now work)) ⌝ }
-    ensures { λ _. ⌜ Kept b (now (work .entry)) (now (work .exit)) × ((n : ℕ) → n < b .nodes → markOf b (now (work .exit)) n ≡ 0) ⌝ }
+    ensures { λ _. ⌜ Kept b (now (work .entry)) (now (work .exit)) × ((n : ℕ) → n < b .nodes → nodeMark b (now (work .exit)) n ≡ 0) ⌝ }
 {
-    let from = b.states;
-    let to = b.dependencies;
+    let from = b.states + b.atoms;
+    let to = from + b.nodes;
     area::clear(&mut work[from..to]);
 }
 
@@ -175,7 +175,7 @@ fn refused_at(graph: &[u16], work: &[u16], b: Bases, count: usize, n: usize) -> 
     requires { ⌜ Found (theoryOf (now graph)) (bodyCone (theoryOf (now graph))) b (now work) count ⌝ }
     ensures { λ r. ⌜ r ≡ bodyCone (theoryOf (now (graph .entry))) n && absorbed (theoryOf (now (graph .entry)) .kind n) ⌝ }
 {
-    if graph::at(work, b.states + 2 * n) == 0 {
+    if graph::at(work, b.states + (b.atoms + n)) == 0 {
         return false;
     }
     graph::kind(graph, n) == 7

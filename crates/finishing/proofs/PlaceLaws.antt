@@ -1,12 +1,10 @@
--- Every word that the walk reads or writes stands within the area, and a store outside the tables and the fact rows keeps them (`kept-set`,
--- `ready-kept`).
+-- Every word that the walk reads or writes stands within the area, and a store past the tables keeps them (`kept-set`, `ready-kept`).
 use mathlib.Core.Path.{_≡_, refl, sym, _∙_, subst}
-use mathlib.Core.Logic.{_≢_}
 use mathlib.Core.List.{List}
 use Prim.Native.Nat.{ℕ, _+_, _≤_, _<_}
 use native.Mathlib.Omega.{arith}
 use lib.ListN.{set, length-set}
-use lib.Seq.{take-set-le, getD-set-other}
+use lib.Seq.{take-set-le}
 use Rattle.theory.specs.Words.{theoryOf}
 use Rattle.theory.specs.Edges.{vertices}
 use Rattle.theory.specs.Accepted.{Edition, Accepted}
@@ -17,7 +15,6 @@ use Rattle.area.proofs.PartLaws.{frame-less}
 use Rattle.adjacency.proofs.TableLaws.{kept as table-kept}
 use Rattle.area.specs.Marks.{markOf}
 use Rattle.finishing.specs.Finished.{Kept, Ready}
-use Rattle.area.proofs.MarkLaws.{mark-high}
 
 module _ {ws : List ℕ} {n : ℕ} {b : Bases} (based : Based ws n b) where
   pub atoms-are : b .atoms ≡ theoryOf ws .atoms
@@ -46,18 +43,18 @@ module _ {ws : List ℕ} {n : ℕ} {b : Bases} (based : Based ws n b) where
     order-place = let e = vertices-are in let l = based .laid in let z = based .ends in omega arith
 
     pub mark-place : markOf b v < n
-    mark-place = let h = mark-high (based .laid) v vertex-low in let l = based .laid in let z = based .ends in omega arith
+    mark-place = let e = vertices-are in let l = based .laid in let z = based .ends in omega arith
 
 -- ---- what stays
 
 pub kept-none : {b : Bases} {w : List ℕ} → Kept b w w
-kept-none = record { size = refl; tables = refl; facts = λ i l k. refl }
+kept-none = record { size = refl; tables = refl }
 
 pub kept-on : {b : Bases} {w w′ w″ : List ℕ} → Kept b w w′ → Kept b w′ w″ → Kept b w w″
-kept-on p q = record { size = q .size ∙ p .size; tables = q .tables ∙ p .tables; facts = λ i l k. q .facts i l k ∙ p .facts i l k }
+kept-on p q = record { size = q .size ∙ p .size; tables = q .tables ∙ p .tables }
 
-pub kept-set : {b : Bases} {w : List ℕ} (i x : ℕ) → b .states ≤ i → ((j : ℕ) → b .«fact_rows» ≤ j → j < b .«founded_atoms» → j ≢ i) → Kept b w (set w i x)
-kept-set {b} {w} i x l n = record { size = length-set w i x; tables = take-set-le (b .states) w i x l; facts = λ j h k. getD-set-other w i j x 0 (n j h k) }
+pub kept-set : {b : Bases} {w : List ℕ} (i x : ℕ) → b .states ≤ i → Kept b w (set w i x)
+kept-set {b} {w} i x l = record { size = length-set w i x; tables = take-set-le (b .states) w i x l }
 
 pub ready-kept : {ws : List ℕ} {b : Bases} {w w′ : List ℕ} → Ready ws b w → Kept b w w′ → Ready ws b w′
 ready-kept {ws} {b} {w} {w′} r k = record {

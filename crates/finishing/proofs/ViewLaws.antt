@@ -19,7 +19,6 @@ use Rattle.finishing.specs.Latest.{latest}
 use Rattle.finishing.specs.Cursors.{firstOf}
 use Rattle.finishing.specs.Finished.{Kept, Ready}
 use Rattle.finishing.specs.Walking.{cursorIn, discovered}
-use Rattle.area.proofs.MarkLaws.{mark-low, mark-aside, mark-apart}
 use Rattle.finishing.proofs.LatestLaws.{latest-same, latest-aside, latest-push}
 use Rattle.finishing.proofs.PlaceLaws.{vertices-are, vertex-low, cursor-place, stack-place, order-place, mark-place, kept-on, kept-set, ready-kept}
 
@@ -37,12 +36,9 @@ module _ (ws : List ℕ) (b : Bases) where
   cursor-same w w′ v m c = ap₂ (λ (x y : ℕ). cond (eqb x 2) y (firstOf ws v)) m c
 
 module _ {ws : List ℕ} {b : Bases} {w : List ℕ} (ready : Ready ws b w) where
-  -- a store between the nodes' marks and the atoms' changes no mark
-  marks-aside : (i x : ℕ) → b .dependencies ≤ i → i < b .«founded_atoms» → (u : ℕ) → u < vertices (theoryOf ws) → markIn b (set w i x) u ≡ markIn b w u
-  marks-aside i x l h u k = getD-set-other w i (markOf b u) x 0 (λ q. mark-aside (ready .based .laid) u (vertex-low (ready .based) u k) i l h (sym q))
-
-  kept-aside : (i x : ℕ) → b .dependencies ≤ i → i < b .«fact_rows» → Kept b w (set w i x)
-  kept-aside i x l h = let a = ready .based .laid in kept-set i x (omega arith) (λ j p q r. omega arith)
+  -- a store past the marks changes none
+  marks-aside : (i x : ℕ) → b .dependencies ≤ i → (u : ℕ) → u < vertices (theoryOf ws) → markIn b (set w i x) u ≡ markIn b w u
+  marks-aside i x l u k = getD-set-other w i (markOf b u) x 0 (λ q. let a = ready .based .laid in let e = vertex-low (ready .based) u k in omega arith)
 
   -- ---- the cursor of v moves to c
 
@@ -51,7 +47,7 @@ module _ {ws : List ℕ} {b : Bases} {w : List ℕ} (ready : Ready ws b w) where
     under = let a = ready .based .laid in let e = vertices-are (ready .based) in omega arith
 
     pub look-marks : (u : ℕ) → u < vertices (theoryOf ws) → markIn b (set w (b .dependencies + v) c) u ≡ markIn b w u
-    look-marks = marks-aside (b .dependencies + v) c (omega arith) (let a = ready .based .laid in let e = under in omega arith)
+    look-marks = marks-aside (b .dependencies + v) c (omega arith)
 
     pub look-here : markIn b w v ≡ 2 → cursorIn ws b (set w (b .dependencies + v) c) v ≡ c
     look-here m = cursor-met ws b (set w (b .dependencies + v) c) v (look-marks v low ∙ m) ∙ getD-set-same w (b .dependencies + v) c 0 (cursor-place (ready .based) v low)
@@ -64,13 +60,13 @@ module _ {ws : List ℕ} {b : Bases} {w : List ℕ} (ready : Ready ws b w) where
     look-list base n h = latest-aside w base n (b .dependencies + v) c (λ j k q. let e = under in omega arith)
 
     pub look-kept : Kept b w (set w (b .dependencies + v) c)
-    look-kept = kept-aside (b .dependencies + v) c (omega arith) (let a = ready .based .laid in let e = under in omega arith)
+    look-kept = kept-set (b .dependencies + v) c (let a = ready .based .laid in omega arith)
 
   -- ---- a store to the stack or to the finished vertices
 
-  module _ (i x : ℕ) (from : b .queue ≤ i) (to : i < b .«fact_rows») where
+  module _ (i x : ℕ) (from : b .queue ≤ i) where
     list-marks : (u : ℕ) → u < vertices (theoryOf ws) → markIn b (set w i x) u ≡ markIn b w u
-    list-marks = marks-aside i x (let a = ready .based .laid in omega arith) (let a = ready .based .laid in omega arith)
+    list-marks = marks-aside i x (let a = ready .based .laid in omega arith)
 
     list-cursors : (u : ℕ) → u < vertices (theoryOf ws) → cursorIn ws b (set w i x) u ≡ cursorIn ws b w u
     list-cursors u l =
@@ -82,14 +78,11 @@ module _ {ws : List ℕ} {b : Bases} {w : List ℕ} (ready : Ready ws b w) where
     end-from : b .queue ≤ b .«body_nodes» + n
     end-from = let a = ready .based .laid in omega arith
 
-    end-to : b .«body_nodes» + n < b .«fact_rows»
-    end-to = let a = ready .based .laid in let e = vertices-are (ready .based) in omega arith
-
     pub end-marks : (u : ℕ) → u < vertices (theoryOf ws) → markIn b (set w (b .«body_nodes» + n) v) u ≡ markIn b w u
-    end-marks = list-marks (b .«body_nodes» + n) v end-from end-to
+    end-marks = list-marks (b .«body_nodes» + n) v end-from
 
     pub end-cursors : (u : ℕ) → u < vertices (theoryOf ws) → cursorIn ws b (set w (b .«body_nodes» + n) v) u ≡ cursorIn ws b w u
-    end-cursors = list-cursors (b .«body_nodes» + n) v end-from end-to
+    end-cursors = list-cursors (b .«body_nodes» + n) v end-from
 
     pub end-stack : (m : ℕ) → m ≤ vertices (theoryOf ws) → latest (set w (b .«body_nodes» + n) v) (b .queue) m ≡ latest w (b .queue) m
     end-stack m h = latest-aside w (b .queue) m (b .«body_nodes» + n) v (λ j k q. let a = ready .based .laid in let e = vertices-are (ready .based) in omega arith)
@@ -98,7 +91,7 @@ module _ {ws : List ℕ} {b : Bases} {w : List ℕ} (ready : Ready ws b w) where
     end-order = latest-push w (b .«body_nodes») n v (order-place (ready .based) n room)
 
     pub end-kept : Kept b w (set w (b .«body_nodes» + n) v)
-    end-kept = kept-aside (b .«body_nodes» + n) v (let a = ready .based .laid in omega arith) end-to
+    end-kept = kept-set (b .«body_nodes» + n) v (let a = ready .based .laid in omega arith)
 
   -- ---- v is marked
 
@@ -107,23 +100,20 @@ module _ {ws : List ℕ} {b : Bases} {w : List ℕ} (ready : Ready ws b w) where
     mark-here = getD-set-same w (markOf b v) x 0 (mark-place (ready .based) v low)
 
     mark-others : (u : ℕ) → u < vertices (theoryOf ws) → u ≢ v → markIn b (set w (markOf b v) x) u ≡ markIn b w u
-    mark-others u l n = getD-set-other w (markOf b v) (markOf b u) x 0 (mark-apart (ready .based .laid) v (vertex-low (ready .based) v low) u (vertex-low (ready .based) u l) n)
+    mark-others u l n = getD-set-other w (markOf b v) (markOf b u) x 0 (λ q. n (omega arith))
 
-    mark-word : (i : ℕ) → b .dependencies ≤ i → i < b .«founded_atoms» → getD (set w (markOf b v) x) i 0 ≡ getD w i 0
-    mark-word i l h = getD-set-other w (markOf b v) i x 0 (mark-aside (ready .based .laid) v (vertex-low (ready .based) v low) i l h)
+    mark-word : (i : ℕ) → b .dependencies ≤ i → getD (set w (markOf b v) x) i 0 ≡ getD w i 0
+    mark-word i l = getD-set-other w (markOf b v) i x 0 (λ q. let a = ready .based .laid in let e = vertex-low (ready .based) v low in omega arith)
 
     mark-cursors : (u : ℕ) → u < vertices (theoryOf ws) → u ≢ v → cursorIn ws b (set w (markOf b v) x) u ≡ cursorIn ws b w u
     mark-cursors u l n =
-        cursor-same ws b w (set w (markOf b v) x) u (mark-others u l n)
-        (mark-word (b .dependencies + u) (omega arith) (let a = ready .based .laid in let e = vertices-are (ready .based) in omega arith))
+        cursor-same ws b w (set w (markOf b v) x) u (mark-others u l n) (mark-word (b .dependencies + u) (omega arith))
 
-    mark-list : (base n : ℕ) → b .dependencies ≤ base → base + n ≤ b .«fact_rows» → latest (set w (markOf b v) x) base n ≡ latest w base n
-    mark-list base n l h = latest-same w (set w (markOf b v) x) base n (λ j k. mark-word (base + j) (omega arith) (let a = ready .based .laid in omega arith))
+    mark-list : (base n : ℕ) → b .dependencies ≤ base → latest (set w (markOf b v) x) base n ≡ latest w base n
+    mark-list base n l = latest-same w (set w (markOf b v) x) base n (λ j k. mark-word (base + j) (omega arith))
 
     mark-kept : Kept b w (set w (markOf b v) x)
-    mark-kept =
-        kept-set (markOf b v) x (mark-low (ready .based .laid) v (vertex-low (ready .based) v low))
-        (λ j l h. mark-aside (ready .based .laid) v (vertex-low (ready .based) v low) j (let a = ready .based .laid in omega arith) h)
+    mark-kept = kept-set (markOf b v) x (omega arith)
 
 -- ---- v is met, with n others on the stack
 
@@ -146,17 +136,14 @@ module _ {ws : List ℕ} {b : Bases} {w : List ℕ} (ready : Ready ws b w) (v : 
   to : b .queue + n < b .«body_nodes»
   to = let a = ready .based .laid in let e = vertices-are (ready .based) in omega arith
 
-  to-rows : b .queue + n < b .«fact_rows»
-  to-rows = let a = ready .based .laid in let e = to in omega arith
-
   pub found-here : markIn b (discovered ws b w v n) v ≡ 2
-  found-here = list-marks ready₂ (b .queue + n) v from to-rows v low ∙ look-marks ready₁ v low (firstOf ws v) v low ∙ mark-here ready v low 2
+  found-here = list-marks ready₂ (b .queue + n) v from v low ∙ look-marks ready₁ v low (firstOf ws v) v low ∙ mark-here ready v low 2
 
   pub found-marks : (u : ℕ) → u < vertices (theoryOf ws) → u ≢ v → markIn b (discovered ws b w v n) u ≡ markIn b w u
-  found-marks u l q = list-marks ready₂ (b .queue + n) v from to-rows u l ∙ look-marks ready₁ v low (firstOf ws v) u l ∙ mark-others ready v low 2 u l q
+  found-marks u l q = list-marks ready₂ (b .queue + n) v from u l ∙ look-marks ready₁ v low (firstOf ws v) u l ∙ mark-others ready v low 2 u l q
 
   pub found-cursors : markIn b w v ≢ 2 → (u : ℕ) → u < vertices (theoryOf ws) → cursorIn ws b (discovered ws b w v n) u ≡ cursorIn ws b w u
-  found-cursors m u l = list-cursors ready₂ (b .queue + n) v from to-rows u l ∙ go (ℕ-discrete u v)
+  found-cursors m u l = list-cursors ready₂ (b .queue + n) v from u l ∙ go (ℕ-discrete u v)
     where
       go : Dec (u ≡ v) → cursorIn ws b (set (set w (markOf b v) 2) (b .dependencies + v) (firstOf ws v)) u ≡ cursorIn ws b w u
       go (yes e) =
@@ -176,13 +163,13 @@ module _ {ws : List ℕ} {b : Bases} {w : List ℕ} (ready : Ready ws b w) (v : 
   pub found-stack : latest (discovered ws b w v n) (b .queue) (n + 1) ≡ v ∷ latest w (b .queue) n
   found-stack =
       latest-push w₂ (b .queue) n v (stack-place (ready₂ .based) n room)
-      ∙ ap (λ (l : List ℕ). v ∷ l) (look-list ready₁ v low (firstOf ws v) (b .queue) n (omega arith) ∙ mark-list ready v low 2 (b .queue) n (let a = ready .based .laid in omega arith) (let t = to-rows in omega arith))
+      ∙ ap (λ (l : List ℕ). v ∷ l) (look-list ready₁ v low (firstOf ws v) (b .queue) n (omega arith) ∙ mark-list ready v low 2 (b .queue) n (let a = ready .based .laid in omega arith))
 
   pub found-order : (m : ℕ) → m ≤ vertices (theoryOf ws) → latest (discovered ws b w v n) (b .«body_nodes») m ≡ latest w (b .«body_nodes») m
   found-order m h =
       latest-aside w₂ (b .«body_nodes») m (b .queue + n) v (λ j k q. let t = to in omega arith)
       ∙ look-list ready₁ v low (firstOf ws v) (b .«body_nodes») m (let a = ready .based .laid in omega arith)
-      ∙ mark-list ready v low 2 (b .«body_nodes») m (let a = ready .based .laid in omega arith) (let a = ready .based .laid in let e = vertices-are (ready .based) in omega arith)
+      ∙ mark-list ready v low 2 (b .«body_nodes») m (let a = ready .based .laid in omega arith)
 
   pub found-kept : Kept b w (discovered ws b w v n)
-  found-kept = kept-on (mark-kept ready v low 2) (kept-on (look-kept ready₁ v low (firstOf ws v)) (kept-aside ready₂ (b .queue + n) v (let a = ready .based .laid in omega arith) to-rows))
+  found-kept = kept-on (mark-kept ready v low 2) (kept-on (look-kept ready₁ v low (firstOf ws v)) (kept-set (b .queue + n) v (let a = ready .based .laid in omega arith)))

@@ -3,7 +3,7 @@ use mathlib.Core.Path.{_≡_}
 use mathlib.Core.Bool.{false}
 use mathlib.Core.List.{List}
 use Prim.Native.Nat.{ℕ, _≤_, _<_}
-use lib.ListN.{length, getD, take}
+use lib.ListN.{length, take}
 use Rattle.theory.specs.Sets.{Is}
 use Rattle.theory.specs.Words.{theoryOf}
 use Rattle.theory.specs.Edges.{vertices, inGraph, conePreds}
@@ -15,11 +15,10 @@ use Rattle.adjacency.specs.declared.Table.the-variants.{ByHead}
 use Rattle.area.specs.Marks.{markIn}
 use Rattle.finishing.specs.Latest.{latest}
 
--- what stays: the length, the tables and the fact rows
+-- what stays: the length and the tables
 pub record Kept (b : Bases) (w w′ : List ℕ) : Type 0 where
   pub size : length w′ ≡ length w
   pub tables : take (b .states) w′ ≡ take (b .states) w
-  pub facts : (i : ℕ) → b .«fact_rows» ≤ i → i < b .«founded_atoms» → getD w′ i 0 ≡ getD w i 0
 
 module _ (ws : List ℕ) (b : Bases) where
   -- what the walk reads and never writes: the bases, and the producers by head

@@ -48,7 +48,7 @@ fn is_new(work: &[u16], b: Bases, v: usize) -> bool
     requires { ⌜ Laid b × (v < b .atoms + b .nodes) × (b .end ≤ length (now work)) ⌝ }
     ensures { λ r. ⌜ r ≡ eqb (markIn b (now (work .entry)) v) 1 ⌝ }
 {
-    graph::at(work, area::mark(b, v)) == 1
+    graph::at(work, b.states + v) == 1
 }
 
 // A vertex that is still to be met is marked, its cursor is set to its first entry, and it goes on the stack, above `top` others.
@@ -56,7 +56,7 @@ fn meet(graph: &[u16], work: &mut [u16], b: Bases, v: usize, top: usize)
     requires { ⌜ Accepted edition1 (now graph) × Meeting (now graph) b (now work) v top ⌝ }
     ensures { λ _. ⌜ now (work .exit) ≡ discovered (now (graph .entry)) b (now (work .entry)) v top ⌝ }
 {
-    area::put(work, area::mark(b, v), 2);
+    area::put(work, b.states + v, 2);
     area::put(work, b.dependencies + v, first_entry(graph, b, v));
     area::put(work, b.queue + top, v);
 }

@@ -2,7 +2,7 @@
 use mathlib.Core.Path.{_≡_}
 use mathlib.Core.Bool.{cond}
 use mathlib.Core.List.{List, []}
-use Prim.Native.Nat.{ℕ, _+_, _*_, _<_}
+use Prim.Native.Nat.{ℕ, _+_, _<_}
 use lib.ListN.{length, getD}
 use Rattle.theory.specs.Sets.{Set}
 use Rattle.theory.specs.Words.{theoryOf}
@@ -11,6 +11,7 @@ use Rattle.theory.specs.Founded.{cyclic, missing}
 use Rattle.theory.specs.Cases.{absorbedIn}
 use Rattle.area.specs.declared.Bases.{Bases}
 use Rattle.area.specs.Layout.{Based}
+use Rattle.area.specs.Marks.{markIn}
 use Rattle.adjacency.specs.Tables.{rowsOf, edgesOf, baseOf, nextOf, Tabled}
 use Rattle.adjacency.specs.declared.Table.the-variants.{ByHead}
 use Rattle.events.specs.Held.{Tables}
@@ -32,7 +33,7 @@ pub record Onward (ws : List ℕ) (b : Bases) (w : List ℕ) : Type 0 where
   pub based : Based ws (length w) b
   pub tables : Tables (theoryOf ws) b w
   pub by-head : Headed ws b w
-  pub marks : (n : ℕ) → n < theoryOf ws .nodes → getD w (b .states + 2 * n) 0 ≡ cond (bodyCone (theoryOf ws) n) 1 0
+  pub marks : (n : ℕ) → n < theoryOf ws .nodes → markIn b w (b .atoms + n) ≡ cond (bodyCone (theoryOf ws) n) 1 0
 
 -- the cyclic atoms are flagged
 pub record Marking (ws : List ℕ) (b : Bases) (w₀ w : List ℕ) : Type 0 where

@@ -42,7 +42,7 @@ fn walk(graph: &[u16], work: &mut [u16], b: Bases)
     requires { ⌜ Accepted edition1 (now graph) × Onward (now graph) b (now work) ⌝ }
     ensures { λ _. ⌜ Marking (now (graph .entry)) b (now (work .entry)) (now (work .exit)) ⌝ }
 {
-    let from = b.founded_atoms;
+    let from = b.states;
     let to = from + b.atoms;
     ones(&mut work[from..to]);
     components::cyclic_atoms(graph, work, b);

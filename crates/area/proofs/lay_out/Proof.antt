@@ -38,11 +38,11 @@ add-states-2 c = search needs
 add-states-3 : tie.Need-add-states-3
 add-states-3 c = search needs
 
-mul-dependencies : tie.Need-mul-dependencies
-mul-dependencies c = search needs
-
 add-dependencies : tie.Need-add-dependencies
 add-dependencies c = search needs
+
+add-dependencies-2 : tie.Need-add-dependencies-2
+add-dependencies-2 c = search needs
 
 add-queue : tie.Need-add-queue
 add-queue c = search needs
@@ -65,14 +65,11 @@ add-fact-rows-2 c = search needs
 add-fact-rows-3 : tie.Need-add-fact-rows-3
 add-fact-rows-3 c = search needs
 
-add-founded-atoms : tie.Need-add-founded-atoms
-add-founded-atoms c = search needs
-
 add-cyclic-atoms : tie.Need-add-cyclic-atoms
 add-cyclic-atoms c = search needs
 
-add-t17 : tie.Need-add-t17
-add-t17 c = search needs
+add-t16 : tie.Need-add-t16
+add-t16 c = search needs
 
 returns : tie.Need-returns
 unfolding layOut
@@ -102,8 +99,8 @@ lay-out-spec =
     add-states
     add-states-2
     add-states-3
-    mul-dependencies
     add-dependencies
+    add-dependencies-2
     add-queue
     add-queue-2
     add-body-nodes
@@ -111,7 +108,6 @@ lay-out-spec =
     add-fact-rows
     add-fact-rows-2
     add-fact-rows-3
-    add-founded-atoms
     add-cyclic-atoms
-    add-t17
+    add-t16
     returns)

@@ -1,5 +1,5 @@
-use mathlib.Core.Path.{refl}
-use Rattle.components.proofs.StartLaws.{sizes, sweep-begin, sweep-finish}
+use Rattle.area.proofs.FillLaws.{filled}
+use Rattle.components.proofs.StartLaws.{flags-part, sizes, sweep-begin, sweep-finish}
 use borrow.Author.Needs.{needs}
 use Rattle.components.proofs.cyclic_atoms.Statement.{statement}
 use Rattle.components.proofs.cyclic_atoms.Tie as tie
@@ -34,7 +34,8 @@ classify-requires c κs =
     let c-finish-order = p1 .finish-order in
     let p2 = p1 .before .before .before .before in
     let c-pre = p2 .pre in
-    (c-pre .0, rw (sizes (c-pre .0) (c-pre .1 .based) (c-pre .2) (c-finish-order .ensures) (c-clear .ensures) refl) (c-pre .1 .based), sweep-begin (c-pre .0) (c-pre .1 .based) (c-pre .2) (c-finish-order .ensures) (c-clear .ensures) refl)
+    let f = filled (c-clear .ensures) (flags-part (c-pre .0) (c-pre .1 .based) (c-pre .2) (c-finish-order .ensures)) in
+    (c-pre .0, rw (sizes (c-pre .0) (c-pre .1 .based) (c-pre .2) (c-finish-order .ensures) f) (c-pre .1 .based), sweep-begin (c-pre .0) (c-pre .1 .based) (c-pre .2) (c-finish-order .ensures) f)
 
 same-length : tie.Need-same-length
 same-length c = search needs
@@ -48,7 +49,8 @@ returns c =
     let c-finish-order = p2 .finish-order in
     let p3 = p2 .before .before .before .before in
     let c-pre = p3 .pre in
-    sweep-finish (c-pre .0) (c-pre .1 .based) (c-pre .2) (c-finish-order .ensures) (c-clear .ensures) refl (c-classify .ensures)
+    let f = filled (c-clear .ensures) (flags-part (c-pre .0) (c-pre .1 .based) (c-pre .2) (c-finish-order .ensures)) in
+    sweep-finish (c-pre .0) (c-pre .1 .based) (c-pre .2) (c-finish-order .ensures) f (c-classify .ensures)
 
 pub cyclic-atoms-spec : {M : Type 1} → statement M
 cyclic-atoms-spec =

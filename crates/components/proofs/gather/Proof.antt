@@ -1,7 +1,6 @@
 use mathlib.Core.Path.{sym, _∙_}
 use native.Mathlib.Omega.{arith}
 use lib.ListN.{length-set}
-use Rattle.area.proofs.MarkLaws.{mark-place}
 use Rattle.events.proofs.VertexLaws.{tables-same}
 use Rattle.components.proofs.GatherLaws.{root-in, root-room, gather-known, gather-start, small}
 use Rattle.components.proofs.TurnLaws.{search-restart, search-join, gather-end}
@@ -12,7 +11,6 @@ use Rattle.components.proofs.gather.Reads as reads
 use Rattle.components.proofs.gather.Lts as lts
 use Rattle.area.proofs.put.Reads as put-reads
 use Rattle.components.proofs.follow.Reads as follow-reads
-use Rattle.area.proofs.mark.Reads as mark-reads
 use Rattle.graph.proofs.at.Reads as at-reads
 
 add-at : tie.Need-add-at
@@ -27,22 +25,21 @@ at-requires c κs =
     let c-pre = p1 .pre in
     let l = c-pre .1 .laid in let q = c-pre .1 .ends in let f = c-pre .2 .fits in omega arith
 
-mark-requires : tie.Need-mark-requires
-mark-requires c κs =
-    let c-at = c .at in
-    let p1 = c .before .before .before .before .before in
+add-m : tie.Need-add-m
+add-m c =
+    let c-at = c .before .at in
+    let p1 = c .before .before .before .before .before .before in
     let c-pre = p1 .pre in
     let c-args = p1 .args in
-    let l = c-pre .1 .laid in let q = c-pre .1 .ends in let r = root-in (c-pre .0) (c-pre .1) (c-args .n) (c-args .found) (c-pre .2) .1 in (l, rw (c-at .ensures .0) r, omega arith)
+    let l = c-pre .1 .laid in let q = c-pre .1 .ends in let r = root-in (c-pre .0) (c-pre .1) (c-args .n) (c-args .found) (c-pre .2) .1 in let e = c-at .ensures .0 in omega arith
 
 at-requires-2 : tie.Need-at-requires-2
 at-requires-2 c κs =
-    let c-mark = c .before .mark in
     let c-at = c .before .before .at in
     let p1 = c .before .before .before .before .before .before .before in
     let c-pre = p1 .pre in
     let c-args = p1 .args in
-    let q = c-pre .1 .ends in let r = root-in (c-pre .0) (c-pre .1) (c-args .n) (c-args .found) (c-pre .2) .1 in let p = mark-place (c-pre .1 .laid) (c-at .result) (rw (c-at .ensures .0) r) .1 in let e = c-mark .ensures in omega arith
+    let q = c-pre .1 .ends in let r = root-in (c-pre .0) (c-pre .1) (c-args .n) (c-args .found) (c-pre .2) .1 in let l = c-pre .1 .laid in let e = c-at .ensures .0 in omega arith
 
 same-length : tie.Need-same-length
 same-length c = search needs
@@ -51,36 +48,33 @@ returns : tie.Need-returns
 returns c =
     let c-if1 = c .if1 in
     let c-at2 = c .before .at2 in
-    let c-mark = c .before .before .before .mark in
     let p1 = c .before .before .before .before in
     let c-at = p1 .at in
     let p2 = p1 .before .before .before .before .before in
     let c-pre = p2 .pre in
     let c-args = p2 .args in
-    gather-known (c-pre .0) (c-pre .1) (c-args .n) (c-args .found) (c-pre .2) (λ k. c-if1 .taken (c-at2 .ensures .0 ∙ rw (c-mark .ensures, c-at .ensures .0) k))
+    gather-known (c-pre .0) (c-pre .1) (c-args .n) (c-args .found) (c-pre .2) (λ k. c-if1 .taken (c-at2 .ensures .0 ∙ rw (c-at .ensures .0) k))
 
 put-requires : tie.Need-put-requires
 put-requires c κs =
     let p1 = c .before .before .before .before in
-    let c-mark = p1 .mark in
     let c-at = p1 .before .at in
     let p2 = p1 .before .before .before .before .before .before in
     let c-pre = p2 .pre in
     let c-args = p2 .args in
-    let q = c-pre .1 .ends in let r = root-in (c-pre .0) (c-pre .1) (c-args .n) (c-args .found) (c-pre .2) .1 in let p = mark-place (c-pre .1 .laid) (c-at .result) (rw (c-at .ensures .0) r) .1 in let e = c-mark .ensures in (omega arith, omega arith)
+    let q = c-pre .1 .ends in let r = root-in (c-pre .0) (c-pre .1) (c-args .n) (c-args .found) (c-pre .2) .1 in let l = c-pre .1 .laid in let e = c-at .ensures .0 in (omega arith, omega arith)
 
 add-put : tie.Need-add-put
 add-put c =
     let p1 = c .before .before .before .before .before .before in
     let c-if1 = p1 .if1 in
     let c-at2 = p1 .before .at2 in
-    let c-mark = p1 .before .before .before .mark in
     let p2 = p1 .before .before .before .before in
     let c-at = p2 .at in
     let p3 = p2 .before .before .before .before .before in
     let c-pre = p3 .pre in
     let c-args = p3 .args in
-    let l = c-pre .1 .laid in let q = c-pre .1 .ends in let r = root-room (c-pre .0) (c-pre .1) (c-args .n) (c-args .found) (c-pre .2) q (small (c-pre .0) (c-pre .1)) (rw (c-mark .ensures, c-at .ensures .0) at (sym (c-at2 .ensures .0) ∙ c-if1 .left)) in omega arith
+    let l = c-pre .1 .laid in let q = c-pre .1 .ends in let r = root-room (c-pre .0) (c-pre .1) (c-args .n) (c-args .found) (c-pre .2) q (small (c-pre .0) (c-pre .1)) (rw (c-at .ensures .0) at (sym (c-at2 .ensures .0) ∙ c-if1 .left)) in omega arith
 
 put-requires-2 : tie.Need-put-requires-2
 put-requires-2 c κs =
@@ -89,12 +83,11 @@ put-requires-2 c κs =
     let c-if1 = p1 .before .before .if1 in
     let c-at2 = p1 .before .before .before .at2 in
     let p2 = p1 .before .before .before .before .before in
-    let c-mark = p2 .mark in
     let c-at = p2 .before .at in
     let p3 = p2 .before .before .before .before .before .before in
     let c-pre = p3 .pre in
     let c-args = p3 .args in
-    let l = c-pre .1 .laid in let q = c-pre .1 .ends in let r = root-room (c-pre .0) (c-pre .1) (c-args .n) (c-args .found) (c-pre .2) q (small (c-pre .0) (c-pre .1)) (rw (c-mark .ensures, c-at .ensures .0) at (sym (c-at2 .ensures .0) ∙ c-if1 .left)) in (rw (c-put .ensures, length-set) (omega arith), c-at .ensures .1)
+    let l = c-pre .1 .laid in let q = c-pre .1 .ends in let r = root-room (c-pre .0) (c-pre .1) (c-args .n) (c-args .found) (c-pre .2) q (small (c-pre .0) (c-pre .1)) (rw (c-at .ensures .0) at (sym (c-at2 .ensures .0) ∙ c-if1 .left)) in (rw (c-put .ensures, length-set) (omega arith), c-at .ensures .1)
 
 follow-requires : tie.Need-follow-requires
 follow-requires c κs =
@@ -104,13 +97,12 @@ follow-requires c κs =
     let c-if1 = p1 .before .before .if1 in
     let c-at2 = p1 .before .before .before .at2 in
     let p2 = p1 .before .before .before .before .before in
-    let c-mark = p2 .mark in
     let c-at = p2 .before .at in
     let p3 = p2 .before .before .before .before .before .before in
     let c-pre = p3 .pre in
     let c-args = p3 .args in
-    let s = gather-start (c-pre .0) (c-pre .1) (c-args .n) (c-args .found) (c-pre .2) (c-pre .1 .ends) (small (c-pre .0) (c-pre .1)) (rw (c-mark .ensures, c-at .ensures .0) at (sym (c-at2 .ensures .0) ∙ c-if1 .left)) (c-at .result) (c-at .ensures .0) in
-    rw (c-put2 .ensures, c-put .ensures, c-mark .ensures) (c-pre .0, rw (s .kept .size) (c-pre .1), tables-same (s .kept .tables) (s .kept .size) (c-pre .2 .tables), search-restart (c-pre .1 .laid) (s .kept) (c-args .n) (c-pre .2 .fits) s)
+    let s = gather-start (c-pre .0) (c-pre .1) (c-args .n) (c-args .found) (c-pre .2) (c-pre .1 .ends) (small (c-pre .0) (c-pre .1)) (rw (c-at .ensures .0) at (sym (c-at2 .ensures .0) ∙ c-if1 .left)) (c-at .result) (c-at .ensures .0) in
+    rw (c-put2 .ensures, c-put .ensures) (c-pre .0, rw (s .kept .size) (c-pre .1), tables-same (s .kept .tables) (s .kept .size) (c-pre .2 .tables), search-restart (c-pre .1 .laid) (s .kept) (c-args .n) (c-pre .2 .fits) s)
 
 same-length-2 : tie.Need-same-length-2
 same-length-2 c = search needs
@@ -125,13 +117,12 @@ returns-2 c =
     let c-if1 = p2 .before .before .if1 in
     let c-at2 = p2 .before .before .before .at2 in
     let p3 = p2 .before .before .before .before .before in
-    let c-mark = p3 .mark in
     let c-at = p3 .before .at in
     let p4 = p3 .before .before .before .before .before .before in
     let c-pre = p4 .pre in
     let c-args = p4 .args in
-    let s = gather-start (c-pre .0) (c-pre .1) (c-args .n) (c-args .found) (c-pre .2) (c-pre .1 .ends) (small (c-pre .0) (c-pre .1)) (rw (c-mark .ensures, c-at .ensures .0) at (sym (c-at2 .ensures .0) ∙ c-if1 .left)) (c-at .result) (c-at .ensures .0) in
-    gather-end (c-pre .0) (c-pre .1) (c-args .n) (c-args .found) (c-follow .result) (c-follow .result) (search-join (c-pre .1 .laid) (s .kept) (c-args .n) (c-pre .2 .fits) (s .front) (rw (c-put2 .ensures, c-put .ensures, c-mark .ensures) at (c-follow .ensures))) (omega arith) (c-pre .2)
+    let s = gather-start (c-pre .0) (c-pre .1) (c-args .n) (c-args .found) (c-pre .2) (c-pre .1 .ends) (small (c-pre .0) (c-pre .1)) (rw (c-at .ensures .0) at (sym (c-at2 .ensures .0) ∙ c-if1 .left)) (c-at .result) (c-at .ensures .0) in
+    gather-end (c-pre .0) (c-pre .1) (c-args .n) (c-args .found) (c-follow .result) (c-follow .result) (search-join (c-pre .1 .laid) (s .kept) (c-args .n) (c-pre .2 .fits) (s .front) (rw (c-put2 .ensures, c-put .ensures) at (c-follow .ensures))) (omega arith) (c-pre .2)
 
 pub gather-spec : {M : Type 1} → statement M
 gather-spec =
@@ -139,7 +130,7 @@ gather-spec =
     (tie.spec
     add-at
     at-requires
-    mark-requires
+    add-m
     at-requires-2
     same-length
     returns

@@ -1,8 +1,14 @@
-use denote.Ref.{now}
-use Rattle.cones.proofs.BeginLaws.{cleared-kept, cleared-marks}
+use Rattle.area.proofs.FillLaws.{filled}
+use Rattle.cones.proofs.BeginLaws.{marks-part, cleared-kept, cleared-marks}
 use borrow.Author.Needs.{needs}
 use Rattle.cones.proofs.clear_marks.Statement.{statement}
 use Rattle.cones.proofs.clear_marks.Tie as tie
+
+add-from : tie.Need-add-from
+add-from c = search needs
+
+add-to : tie.Need-add-to
+add-to c = search needs
 
 mul-clear : tie.Need-mul-clear
 mul-clear c = search needs
@@ -26,14 +32,16 @@ returns : tie.Need-returns
 returns c =
     let c-clear = c .before .before .clear in
     let p1 = c .before .before .before .before .before in
-    let c-pre = p1 .pre in
-    let c-args = p1 .args in
-    (cleared-kept (c-pre .0) (now (c-args .work)) (c-pre .1) (c-clear .ensures), cleared-marks (c-pre .0) (now (c-args .work)) (c-pre .1) (c-clear .ensures))
+    let c-pre = p1 .before .before .pre in
+    let f = filled (c-clear .ensures) (marks-part (c-pre .0) (c-pre .1)) in
+    (cleared-kept (c-pre .0) f, cleared-marks (c-pre .0) f)
 
 pub clear-marks-spec : {M : Type 1} → statement M
 clear-marks-spec =
     tie.close
     (tie.spec
+    add-from
+    add-to
     mul-clear
     sub-clear
     part-clear-start

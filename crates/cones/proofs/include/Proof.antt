@@ -6,25 +6,25 @@ use Rattle.cones.proofs.include.Tie as tie
 use Rattle.area.proofs.put.Reads as put-reads
 use Rattle.graph.proofs.at.Reads as at-reads
 
-mul-mark : tie.Need-mul-mark
-mul-mark c =
-    let c-pre = c .before .pre in
-    let r = search-ready (c-pre) in let l = r .laid in omega arith
-
 add-mark : tie.Need-add-mark
 add-mark c =
     let c-pre = c .before .before .pre in
     let r = search-ready (c-pre) in let l = r .laid in omega arith
 
+add-mark-2 : tie.Need-add-mark-2
+add-mark-2 c =
+    let c-pre = c .before .before .before .pre in
+    let r = search-ready (c-pre) in let l = r .laid in omega arith
+
 at-requires : tie.Need-at-requires
 at-requires c κs =
-    let c-pre = c .before .before .before .pre in
+    let c-pre = c .before .before .before .before .pre in
     let r = search-ready (c-pre) in let l = r .laid in omega arith
 
 put-requires : tie.Need-put-requires
 put-requires c κs =
     let p1 = c .before .before .before .before .before in
-    let c-pre = p1 .pre in
+    let c-pre = p1 .before .pre in
     let r = search-ready (c-pre) in let l = r .laid in (omega arith, omega arith)
 
 add-put : tie.Need-add-put
@@ -33,7 +33,7 @@ add-put c = search needs
 put-requires-2 : tie.Need-put-requires-2
 put-requires-2 c κs =
     let p1 = c .before .before .before .before .before .before .before .before .before .before in
-    let c-pre = p1 .pre in
+    let c-pre = p1 .before .pre in
     let r = search-ready (c-pre) in let l = r .laid in (search needs, omega arith)
 
 add-result : tie.Need-add-result
@@ -44,7 +44,7 @@ sub-result c =
     let p1 = c .before .before .before .before .before .before .before .before .before in
     let c-at = p1 .at in
     let p2 = p1 .before .before .before .before in
-    let c-pre = p2 .pre in
+    let c-pre = p2 .before .pre in
     let r = search-ready (c-pre) in let l = r .laid in let m = r .mark in let e = c-at .ensures .0 in omega arith
 
 same-length : tie.Need-same-length
@@ -57,15 +57,15 @@ returns c =
     let c-put = p1 .put in
     let c-at = p1 .before .before .at in
     let p2 = p1 .before .before .before .before .before .before in
-    let c-pre = p2 .pre in
+    let c-pre = p2 .before .pre in
     rw (c-put2 .ensures, c-put .ensures) (search-include (search-ready (c-pre)) (c-at .result) (c-at .ensures .0))
 
 pub include-spec : {M : Type 1} → statement M
 include-spec =
     tie.close
     (tie.spec
-    mul-mark
     add-mark
+    add-mark-2
     at-requires
     put-requires
     add-put

@@ -1,5 +1,7 @@
 use native.Mathlib.Omega.{arith}
-use Rattle.cycles.proofs.SetupLaws.{set-up-started}
+use mathlib.Core.Path.{_∙_}
+use Rattle.area.proofs.FillLaws.{filled}
+use Rattle.cycles.proofs.SetupLaws.{counts-part, set-up-started}
 use borrow.Author.Needs.{needs}
 use Rattle.cycles.proofs.set_up.Statement.{statement}
 use Rattle.cycles.proofs.set_up.Tie as tie
@@ -77,7 +79,8 @@ returns c =
     let c-build-in = p3 .build-in in
     let p4 = p3 .before .before .before .before in
     let c-pre = p4 .pre in
-    set-up-started (c-clear .last .0) (c-pre .0) (omega arith) (c-pre .1) (c-pre .2) (omega arith) (c-build-in .ensures) (c-build-in2 .ensures) (c-build-in3 .ensures) (c-clear .ensures)
+    let f = filled (c-clear .ensures) (counts-part (c-pre .1 .laid) (c-pre .1 .ends) (c-build-in3 .ensures .size ∙ c-build-in2 .ensures .size ∙ c-build-in .ensures .size)) in
+    set-up-started (c-pre .0) (omega arith) (c-pre .1) (c-pre .2) (omega arith) (c-build-in .ensures) (c-build-in2 .ensures) (c-build-in3 .ensures) f
 
 pub set-up-spec : {M : Type 1} → statement M
 set-up-spec =

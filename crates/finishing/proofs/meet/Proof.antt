@@ -1,27 +1,26 @@
 use native.Mathlib.Omega.{arith}
 use lib.ListN.{length-set}
 use Rattle.finishing.proofs.CursorLaws.{first-few}
-use Rattle.finishing.proofs.PlaceLaws.{vertices-few, atoms-are, vertex-low, cursor-place, stack-place, mark-place}
+use Rattle.finishing.proofs.PlaceLaws.{vertices-few, atoms-are, cursor-place, stack-place, mark-place}
 use borrow.Author.Needs.{needs}
 use Rattle.finishing.proofs.meet.Statement.{statement}
 use Rattle.finishing.proofs.meet.Tie as tie
 
-mark-requires : tie.Need-mark-requires
-mark-requires c κs =
-    let c-pre = c .before .before .before .pre in
-    let c-args = c .before .before .before .args in
-    ((c-pre .1 .ready .based) .laid, vertex-low (c-pre .1 .ready .based) (c-args .v) (c-pre .1 .low), (let z = (c-pre .1 .ready .based) .ends in omega arith))
+add-put : tie.Need-add-put
+add-put c =
+    let c-pre = c .before .before .before .before .pre in
+    let c-args = c .before .before .before .before .args in
+    let p = mark-place (c-pre .1 .ready .based) (c-args .v) (c-pre .1 .low) in omega arith
 
 put-requires : tie.Need-put-requires
 put-requires c κs =
-    let c-mark = c .mark in
     let p1 = c .before .before .before .before in
     let c-pre = p1 .pre in
     let c-args = p1 .args in
-    (rw (c-mark .ensures) (mark-place (c-pre .1 .ready .based) (c-args .v) (c-pre .1 .low)), omega arith)
+    (mark-place (c-pre .1 .ready .based) (c-args .v) (c-pre .1 .low), omega arith)
 
-add-put : tie.Need-add-put
-add-put c =
+add-put-2 : tie.Need-add-put-2
+add-put-2 c =
     let p1 = c .before .before .before .before .before .before .before .before .before in
     let c-pre = p1 .pre in
     let c-args = p1 .args in
@@ -43,8 +42,8 @@ put-requires-2 c κs =
     let c-args = p2 .args in
     (rw (c-put .ensures, length-set) (cursor-place (c-pre .1 .ready .based) (c-args .v) (c-pre .1 .low)), (let f = first-few _ (c-pre .0) (c-args .v) (c-pre .1 .low) in let e = c-first-entry .ensures in omega arith))
 
-add-put-2 : tie.Need-add-put-2
-add-put-2 c =
+add-put-3 : tie.Need-add-put-3
+add-put-3 c =
     let p1 = c .before .before .before .before .before .before .before .before .before .before .before .before .before .before .before in
     let c-pre = p1 .pre in
     let c-args = p1 .args in
@@ -72,19 +71,18 @@ returns c =
     let c-first-entry = p1 .before .first-entry in
     let p2 = p1 .before .before .before .before .before .before in
     let c-put = p2 .put in
-    let c-mark = p2 .before .mark in
-    rw (c-put3 .ensures, c-put2 .ensures, c-put .ensures, c-first-entry .ensures, c-mark .ensures)
+    rw (c-put3 .ensures, c-put2 .ensures, c-put .ensures, c-first-entry .ensures)
 
 pub meet-spec : {M : Type 1} → statement M
 meet-spec =
     tie.close
     (tie.spec
-    mark-requires
-    put-requires
     add-put
+    put-requires
+    add-put-2
     first-entry-requires
     put-requires-2
-    add-put-2
+    add-put-3
     put-requires-3
     same-length
     returns)

@@ -1,5 +1,5 @@
-use mathlib.Core.Path.{refl}
-use Rattle.preparation.proofs.WalkLaws.{ready₁, tables₁, marked₁, marking₁}
+use Rattle.area.proofs.FillLaws.{filled}
+use Rattle.preparation.proofs.WalkLaws.{atoms-part, ready₁, tables₁, marked₁, marking₁}
 use borrow.Author.Needs.{needs}
 use Rattle.preparation.proofs.walk.Statement.{statement}
 use Rattle.preparation.proofs.walk.Tie as tie
@@ -27,7 +27,8 @@ cyclic-atoms-requires c κs =
     let c-ones = c .before .before .before .ones in
     let p1 = c .before .before .before .before .before .before .before .before in
     let c-pre = p1 .pre in
-    (c-pre .0, ready₁ (c-pre .0) (c-pre .1) (c-ones .ensures) refl, tables₁ (c-pre .0) (c-pre .1) (c-ones .ensures) refl, marked₁ (c-pre .0) (c-pre .1) (c-ones .ensures) refl)
+    let f = filled (c-ones .ensures) (atoms-part (c-pre .1 .based .laid) (c-pre .1 .based .ends)) in
+    (c-pre .0, ready₁ (c-pre .0) (c-pre .1) f, tables₁ (c-pre .0) (c-pre .1) f, marked₁ (c-pre .0) (c-pre .1) f)
 
 same-length : tie.Need-same-length
 same-length c = search needs
@@ -39,7 +40,7 @@ returns c =
     let c-ones = p1 .ones in
     let p2 = p1 .before .before .before .before .before in
     let c-pre = p2 .pre in
-    marking₁ (c-pre .0) (c-pre .1) (c-ones .ensures) refl (c-cyclic-atoms .ensures)
+    marking₁ (c-pre .0) (c-pre .1) (filled (c-ones .ensures) (atoms-part (c-pre .1 .based .laid) (c-pre .1 .based .ends))) (c-cyclic-atoms .ensures)
 
 pub walk-spec : {M : Type 1} → statement M
 walk-spec =

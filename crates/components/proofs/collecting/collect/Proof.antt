@@ -1,7 +1,6 @@
 use mathlib.Core.Path.{sym, _∙_}
 use native.Mathlib.Omega.{arith}
 use lib.ListN.{length-set}
-use Rattle.area.proofs.MarkLaws.{mark-place}
 use Rattle.components.proofs.CollectLaws.{collect-ready, collect-room, collect-fresh, collect-met}
 use borrow.Author.Needs.{needs}
 use Rattle.components.proofs.collecting.collect.Statement.{statement}
@@ -9,20 +8,17 @@ use Rattle.components.proofs.collecting.collect.Tie as tie
 use Rattle.components.proofs.collecting.collect.Reads as reads
 use Rattle.components.proofs.collecting.collect.Lts as lts
 use Rattle.area.proofs.put.Reads as put-reads
-use Rattle.area.proofs.mark.Reads as mark-reads
 use Rattle.graph.proofs.at.Reads as at-reads
 
-mark-requires : tie.Need-mark-requires
-mark-requires c κs =
-    let c-pre = c .before .pre in
-    let r = collect-ready (c-pre) in (r .laid, r .low, omega arith)
+add-m : tie.Need-add-m
+add-m c =
+    let c-pre = c .before .before .pre in
+    let r = collect-ready (c-pre) in let l = r .laid in omega arith
 
 at-requires : tie.Need-at-requires
 at-requires c κs =
-    let c-mark = c .before .mark in
     let c-pre = c .before .before .before .pre in
-    let c-args = c .before .before .before .args in
-    let r = collect-ready (c-pre) in let p = mark-place (r .laid) (c-args .v) (r .low) .1 in let e = c-mark .ensures in omega arith
+    let r = collect-ready (c-pre) in let l = r .laid in omega arith
 
 same-length : tie.Need-same-length
 same-length c = search needs
@@ -31,26 +27,22 @@ returns : tie.Need-returns
 returns c =
     let c-if1 = c .if1 in
     let c-at = c .before .at in
-    let c-mark = c .before .before .before .mark in
-    collect-met (λ q. c-if1 .taken (c-at .ensures .0 ∙ rw (c-mark .ensures) q))
+    collect-met (λ q. c-if1 .taken (c-at .ensures .0 ∙ q))
 
 put-requires : tie.Need-put-requires
 put-requires c κs =
     let p1 = c .before .before .before .before in
-    let c-mark = p1 .mark in
     let c-pre = p1 .before .before .pre in
-    let c-args = p1 .before .before .args in
-    let r = collect-ready (c-pre) in let p = mark-place (r .laid) (c-args .v) (r .low) .1 in let e = c-mark .ensures in (omega arith, omega arith)
+    let r = collect-ready (c-pre) in let l = r .laid in (omega arith, omega arith)
 
 add-put : tie.Need-add-put
 add-put c =
     let p1 = c .before .before .before .before .before .before in
     let c-if1 = p1 .if1 in
     let c-at = p1 .before .at in
-    let c-mark = p1 .before .before .before .mark in
     let p2 = p1 .before .before .before .before .before in
     let c-pre = p2 .pre in
-    let r = collect-ready (c-pre) in let l = r .laid in let k = collect-room (c-pre) (rw (c-mark .ensures) at (sym (c-at .ensures .0) ∙ c-if1 .left)) in omega arith
+    let r = collect-ready (c-pre) in let l = r .laid in let k = collect-room (c-pre) (sym (c-at .ensures .0) ∙ c-if1 .left) in omega arith
 
 put-requires-2 : tie.Need-put-requires-2
 put-requires-2 c κs =
@@ -59,19 +51,17 @@ put-requires-2 c κs =
     let c-if1 = p1 .before .before .if1 in
     let c-at = p1 .before .before .before .at in
     let p2 = p1 .before .before .before .before .before in
-    let c-mark = p2 .mark in
     let c-pre = p2 .before .before .pre in
-    let r = collect-ready (c-pre) in let l = r .laid in let k = collect-room (c-pre) (rw (c-mark .ensures) at (sym (c-at .ensures .0) ∙ c-if1 .left)) in (rw (c-put .ensures, length-set) (omega arith), omega arith)
+    let r = collect-ready (c-pre) in let l = r .laid in let k = collect-room (c-pre) (sym (c-at .ensures .0) ∙ c-if1 .left) in (rw (c-put .ensures, length-set) (omega arith), omega arith)
 
 add-result : tie.Need-add-result
 add-result c =
     let p1 = c .before .before .before .before .before .before .before .before .before in
     let c-if1 = p1 .if1 in
     let c-at = p1 .before .at in
-    let c-mark = p1 .before .before .before .mark in
     let p2 = p1 .before .before .before .before .before in
     let c-pre = p2 .pre in
-    let r = collect-ready (c-pre) in let l = r .laid in let k = collect-room (c-pre) (rw (c-mark .ensures) at (sym (c-at .ensures .0) ∙ c-if1 .left)) in omega arith
+    let r = collect-ready (c-pre) in let l = r .laid in let k = collect-room (c-pre) (sym (c-at .ensures .0) ∙ c-if1 .left) in omega arith
 
 same-length-2 : tie.Need-same-length-2
 same-length-2 c = search needs
@@ -84,15 +74,14 @@ returns-2 c =
     let c-if1 = p1 .before .before .if1 in
     let c-at = p1 .before .before .before .at in
     let p2 = p1 .before .before .before .before .before in
-    let c-mark = p2 .mark in
     let c-pre = p2 .before .before .pre in
-    rw (c-put2 .ensures, c-put .ensures, c-mark .ensures) (collect-fresh (c-pre) (rw (c-mark .ensures) at (sym (c-at .ensures .0) ∙ c-if1 .left)))
+    rw (c-put2 .ensures, c-put .ensures) (collect-fresh (c-pre) (sym (c-at .ensures .0) ∙ c-if1 .left))
 
 pub collect-spec : {M : Type 1} → statement M
 collect-spec =
     tie.close
     (tie.spec
-    mark-requires
+    add-m
     at-requires
     same-length
     returns
