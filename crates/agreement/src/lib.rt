@@ -94,7 +94,7 @@ pub fn check_agrees(graph: &[u16], number: u16, place: u16) -> bool
 pub fn needed_agrees(graph: &[u16], work: &mut [u16], number: u16, place: u16, reply: u16) -> bool
     ensures { λ r. ⌜ NeededAgrees (now (graph .entry)) (length (now (work .entry))) number place reply r ⌝ }
 {
-    memory::set_all(work, SOIL);
+    area::fill(work, SOIL);
     let code = abi::founded_needed(graph, work);
     if code == needed_code(number, place, reply) {
         return work_agrees(number, work);
@@ -114,7 +114,7 @@ pub fn prepare_agrees(
     ensures { λ r. ⌜ PrepareAgrees (now (graph .entry)) (length (now (output .entry))) (length (now (work .entry))) number (now (places .entry)) (now (words .entry)) r ⌝ }
 {
     memory::set_all_wide(output, WIDE_SOIL);
-    memory::set_all(work, SOIL);
+    area::fill(work, SOIL);
     let code = abi::founded_prepare(graph, output, work);
     outcome_agrees(number, places, words, code, output, work)
 }
@@ -133,7 +133,7 @@ pub fn complete_agrees(
     ensures { λ r. ⌜ CompleteAgrees (now (graph .entry)) (now (never .entry)) (now («atom_never» .entry)) (length (now (output .entry))) (length (now (work .entry))) number (now (places .entry)) (now (words .entry)) r ⌝ }
 {
     memory::set_all_wide(output, WIDE_SOIL);
-    memory::set_all(work, SOIL);
+    area::fill(work, SOIL);
     let code = abi::founded_complete(graph, never, atom_never, output, work);
     outcome_agrees(number, places, words, code, output, work)
 }

@@ -5,16 +5,6 @@ ghost use mathlib.Core.Logic.{_↔_};
 ghost use lib.ListN.{length, replicate};
 ghost use Rattle.theory.specs.Sets.{Mem};
 
-pub fn set_all(words: &mut [u16], word: u16)
-    ensures { λ _. ⌜ now (words .exit) ≡ replicate (length (now (words .entry))) word ⌝ }
-{
-    let mut i: usize = 0;
-    while i < words.len() {
-        words[i] = word;
-        i += 1;
-    }
-}
-
 pub fn set_all_wide(words: &mut [u64], word: u64)
     ensures { λ _. ⌜ now (words .exit) ≡ replicate (length (now (words .entry))) word ⌝ }
 {

@@ -13,14 +13,21 @@ pub fn put(words: &mut [u16], i: usize, x: usize)
     words[i] = x as u16;
 }
 
-pub fn clear(words: &mut [u16])
-    ensures { λ _. ⌜ now (words .exit) ≡ replicate (length (now (words .entry))) 0 ⌝ }
+// Every word is x.
+pub fn fill(words: &mut [u16], x: u16)
+    ensures { λ _. ⌜ now (words .exit) ≡ replicate (length (now (words .entry))) x ⌝ }
 {
     let mut i: usize = 0;
     while i < words.len() {
-        words[i] = 0;
+        words[i] = x;
         i += 1;
     }
+}
+
+pub fn clear(words: &mut [u16])
+    ensures { λ _. ⌜ now (words .exit) ≡ replicate (length (now (words .entry))) 0 ⌝ }
+{
+    fill(words, 0);
 }
 
 // Whether all words are 0; there is no branch on any of them.

@@ -1,7 +1,7 @@
 // Preparation and the pass on the work area: row tables, body cone, cyclic atoms; then the cyclic cone, start states and the worklist.
 ghost use mathlib.Core.Path.{_≡_};
 ghost use Prim.Native.Nat.{_+_, _<_};
-ghost use lib.ListN.{length, replicate};
+ghost use lib.ListN.{length};
 ghost use Rattle.theory.specs.Words.{bitAt};
 ghost use Rattle.theory.specs.Accepted.{Accepted, edition1};
 ghost use Rattle.area.specs.Layout.{basesOf, Based};
@@ -27,16 +27,6 @@ fn build_rows(graph: &[u16], work: &mut [u16], b: Bases)
     adjacency::build_in(graph, work, b, Table::ByBody);
 }
 
-fn ones(words: &mut [u16])
-    ensures { λ _. ⌜ now (words .exit) ≡ replicate (length (now (words .entry))) 1 ⌝ }
-{
-    let mut i: usize = 0;
-    while i < words.len() {
-        words[i] = 1;
-        i += 1;
-    }
-}
-
 // Atoms, which are vertices of preparation all of them, and the nodes of the body cone: the cyclic atoms among them.
 fn walk(graph: &[u16], work: &mut [u16], b: Bases)
     requires { ⌜ Accepted edition1 (now graph) × Onward (now graph) b (now work) ⌝ }
@@ -44,7 +34,7 @@ fn walk(graph: &[u16], work: &mut [u16], b: Bases)
 {
     let from = b.states;
     let to = from + b.atoms;
-    ones(&mut work[from..to]);
+    area::fill(&mut work[from..to], 1);
     components::cyclic_atoms(graph, work, b);
 }
 

@@ -5,8 +5,8 @@ use Rattle.agreement.proofs.complete_agrees.Tie as tie
 set-all-wide-requires : tie.Need-set-all-wide-requires
 set-all-wide-requires c κs = search needs
 
-set-all-requires : tie.Need-set-all-requires
-set-all-requires c κs = search needs
+fill-requires : tie.Need-fill-requires
+fill-requires c κs = search needs
 
 founded-complete-requires : tie.Need-founded-complete-requires
 founded-complete-requires c κs = search needs
@@ -27,7 +27,7 @@ returns c =
       code = p1 .founded-complete .result;
       output = _;
       work = _;
-      promised = rw (p1 .before .before .before .before .before .before .before .before .before .set-all-wide .ensures, p1 .before .before .before .before .before .set-all .ensures) at (p1 .founded-complete .ensures);
+      promised = rw (p1 .before .before .before .before .before .before .before .before .before .set-all-wide .ensures, p1 .before .before .before .before .before .fill .ensures) at (p1 .founded-complete .ensures);
       told = c .outcome-agrees .ensures;
     }
 
@@ -36,7 +36,7 @@ complete-agrees-spec =
     tie.close
     (tie.spec
     set-all-wide-requires
-    set-all-requires
+    fill-requires
     founded-complete-requires
     outcome-agrees-requires
     same-length

@@ -4,8 +4,8 @@ use borrow.Author.Needs.{needs}
 use Rattle.agreement.proofs.needed_agrees.Statement.{statement}
 use Rattle.agreement.proofs.needed_agrees.Tie as tie
 
-set-all-requires : tie.Need-set-all-requires
-set-all-requires c κs = search needs
+fill-requires : tie.Need-fill-requires
+fill-requires c κs = search needs
 
 founded-needed-requires : tie.Need-founded-needed-requires
 founded-needed-requires c κs = search needs
@@ -27,11 +27,11 @@ returns c =
     let p1 = c .before .before .before .before .before .before in
     let c-founded-needed = p1 .founded-needed in
     let p2 = p1 .before .before .before .before in
-    let c-set-all = p2 .set-all in
+    let c-fill = p2 .fill in
     record {
       code = c-founded-needed .result;
       work = _;
-      promised = rw (c-set-all .ensures) at (c-founded-needed .ensures);
+      promised = rw (c-fill .ensures) at (c-founded-needed .ensures);
       told = second-says (c-if1 .taken ∙ c-needed-code .ensures) (c-work-agrees .ensures);
     }
 
@@ -45,11 +45,11 @@ returns-2 c =
     let p1 = c .before .before .before .before in
     let c-founded-needed = p1 .founded-needed in
     let p2 = p1 .before .before .before .before in
-    let c-set-all = p2 .set-all in
+    let c-fill = p2 .fill in
     record {
       code = c-founded-needed .result;
       work = _;
-      promised = rw (c-set-all .ensures) at (c-founded-needed .ensures);
+      promised = rw (c-fill .ensures) at (c-founded-needed .ensures);
       told = first-no (λ e. c-if1 .left (e ∙ sym (c-needed-code .ensures)));
     }
 
@@ -57,7 +57,7 @@ pub needed-agrees-spec : {M : Type 1} → statement M
 needed-agrees-spec =
     tie.close
     (tie.spec
-    set-all-requires
+    fill-requires
     founded-needed-requires
     needed-code-requires
     work-agrees-requires

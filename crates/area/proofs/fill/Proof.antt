@@ -7,14 +7,14 @@ use lib.ListN.{length, drop, replicate}
 use lib.Seq.{drop-length}
 use borrow.Author.Fill.{fill-more}
 use borrow.Author.Needs.{needs}
-use Rattle.preparation.proofs.ones.Statement.{statement}
-use Rattle.preparation.proofs.ones.Tie as tie
+use Rattle.area.proofs.fill.Statement.{statement}
+use Rattle.area.proofs.fill.Tie as tie
 
 abbrev Inv-loop : tie.InvT-loop
-Inv-loop words₀ i₀ words i = (i ≤ length words₀) × (length words ≡ length words₀) × (words ≡ replicate i 1 ++ drop i words₀)
+Inv-loop words₀ x i₀ words i = (i ≤ length words₀) × (length words ≡ length words₀) × (words ≡ replicate i x ++ drop i words₀)
 
 abbrev μ-loop : tie.MeasureT-loop
-μ-loop words₀ i₀ words i = length words₀ - i
+μ-loop words₀ x i₀ words i = length words₀ - i
 
 loop-holds : tie.Need-loop-holds Inv-loop μ-loop
 loop-holds c = (omega arith, refl, refl)
@@ -35,7 +35,7 @@ loop-again : tie.Need-loop-again Inv-loop μ-loop
 loop-again c =
     let c-loop = c .before .loop in
     let c-args = c .before .before .args in
-    (omega arith, search needs, rw (c-loop .inv .2) (fill-more (c-loop .i) 1 (now (c-args .words)) (omega arith)))
+    (omega arith, search needs, rw (c-loop .inv .2) (fill-more (c-loop .i) (c-args .x) (now (c-args .words)) (omega arith)))
 
 same-length : tie.Need-same-length Inv-loop μ-loop
 same-length c = search needs
@@ -45,10 +45,10 @@ returns c =
     let c-loop = c .before .loop in
     let c-args = c .before .before .args in
     let e : c-loop .i ≡ length (now (c-args .words)) = omega arith in
-    rw e at (c-loop .inv .2) ∙ ap (λ (l : List _). replicate (length (now (c-args .words))) 1 ++ l) (drop-length (now (c-args .words))) ∙ append-nil _
+    rw e at (c-loop .inv .2) ∙ ap (λ (l : List _). replicate (length (now (c-args .words))) (c-args .x) ++ l) (drop-length (now (c-args .words))) ∙ append-nil _
 
-pub ones-spec : {M : Type 1} → statement M
-ones-spec =
+pub fill-spec : {M : Type 1} → statement M
+fill-spec =
     tie.close
     (tie.spec
     Inv-loop
