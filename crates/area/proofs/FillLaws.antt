@@ -4,7 +4,6 @@ use mathlib.Core.List.{List, _++_}
 use Prim.Native.Nat.{ℕ, _+_, _-_, _≤_, _<_}
 use native.Mathlib.Omega.{arith}
 use lib.ListN.{length, getD, take, drop, replicate, length-replicate, getD-replicate, length-take, length-drop}
-use lib.Seq.{getD-drop}
 use Rattle.area.proofs.PartLaws.{part-length, part-before, part-after, part-at}
 
 -- from a to e every word of w′ is x, and elsewhere it is that of w
@@ -12,7 +11,7 @@ pub record Filled (a e x : ℕ) (w w′ : List ℕ) : Type 0 where
   pub size : length w′ ≡ length w
   pub before : take a w′ ≡ take a w
   pub at : (i : ℕ) → a ≤ i → i < e → getD w′ i 0 ≡ x
-  pub after : (n : ℕ) → e ≤ n → drop n w′ ≡ drop n w
+  pub after : drop e w′ ≡ drop e w
 
 pub filled : {a e x : ℕ} {w p : List ℕ} → p ≡ replicate (length (take (e - a) (drop a w))) x → (a ≤ e) × (e ≤ length w) → Filled a e x w (take a w ++ (p ++ drop (e - a) (drop a w)))
 filled {a} {e} {x} {w} {p} same (h, k) = record {
@@ -24,7 +23,7 @@ filled {a} {e} {x} {w} {p} same (h, k) = record {
       ∙ part-at a e w p h k long (i - a) (let z = long in omega arith)
       ∙ ap (λ (l : List ℕ). getD l (i - a) 0) same
       ∙ getD-replicate (length (take (e - a) (drop a w))) (i - a) x 0 (rw part (omega arith));
-  after = part-after a e w p h k long;
+  after = part-after a e w p h k long e (omega arith);
 }
   where
     part : length (take (e - a) (drop a w)) ≡ e - a
@@ -32,6 +31,3 @@ filled {a} {e} {x} {w} {p} same (h, k) = record {
 
     long : length p ≡ e - a
     long = ap length same ∙ length-replicate (length (take (e - a) (drop a w))) x ∙ part
-
-pub filled-past : {a e x : ℕ} {w w′ : List ℕ} → Filled a e x w w′ → (i : ℕ) → e ≤ i → getD w′ i 0 ≡ getD w i 0
-filled-past {w = w} {w′} f i l = let z : i + 0 ≡ i = omega arith in rw z at (sym (getD-drop i w′ 0 0) ∙ ap (λ (l : List ℕ). getD l 0 0) (f .after i l) ∙ getD-drop i w 0 0)

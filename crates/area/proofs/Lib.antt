@@ -3,3 +3,4 @@ pub mod FillLaws
 pub mod WipeLaws
 pub mod LayoutLaws
 pub mod ListLaws
+pub mod ViewLaws

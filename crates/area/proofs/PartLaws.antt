@@ -1,10 +1,10 @@
 -- A part of the work area, from a to e, that was lent and came back as p: what stands in the whole then.
-use mathlib.Core.Path.{_≡_, sym, ap, _∙_}
+use mathlib.Core.Path.{_≡_, refl, sym, ap, _∙_}
 use mathlib.Core.List.{List, _++_, append-assoc}
 use Prim.Native.Nat.{ℕ, _+_, _-_, _≤_, _<_}
 use native.Mathlib.Omega.{arith}
 use lib.ListN.{length, getD, take, drop, length-append, length-take, length-drop, List·getD-append}
-use lib.Seq.{slice, getD-take, take-take, length-take-le, take-at, take-append-le, take-append-add, drop-append-add, drop-drop, getD-append-add}
+use lib.Seq.{slice, getD-take, take-take, length-take-le, take-at, take-append-le, take-append-add, drop-append-add, drop-drop, getD-drop, getD-append-add}
 
 module _ (a e : ℕ) (w p : List ℕ) (h : a ≤ e) (k : e ≤ length w) (size : length p ≡ e - a) where
   front : length (take a w) ≡ a
@@ -51,3 +51,11 @@ module _ (n : ℕ) (w w′ : List ℕ) (e : take n w′ ≡ take n w) where
 
   pub frame-slice : (f t : ℕ) → t ≤ n → slice f t w′ ≡ slice f t w
   frame-slice f t h = ap (drop f) (frame-less t h)
+
+-- the words from m on are the same
+module _ (m : ℕ) (w w′ : List ℕ) (e : drop m w′ ≡ drop m w) where
+  pub behind-more : (k : ℕ) → m ≤ k → drop k w′ ≡ drop k w
+  behind-more k h = let q : m + (k - m) ≡ k = omega arith in rw (sym q, ← drop-drop (k - m) m w′, ← drop-drop (k - m) m w, e) refl
+
+  pub behind-at : (i : ℕ) → m ≤ i → getD w′ i 0 ≡ getD w i 0
+  behind-at i h = let q : m + (i - m) ≡ i = omega arith in rw (sym q, ← getD-drop m w′ (i - m) 0, ← getD-drop m w (i - m) 0, e) refl

@@ -1,2 +1,2 @@
 pub mod Layout
-pub mod Marks
+pub mod Views

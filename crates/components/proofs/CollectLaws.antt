@@ -11,8 +11,7 @@ use Rattle.theory.proofs.PrefixLaws.{upto-length, upto-same, between-length, be
 use Rattle.theory.proofs.CollectLaws.{entry-low, entry-met, entry-room, entry-fresh}
 use Rattle.theory.specs.Drive.{Follows, Drives}
 use Rattle.area.specs.declared.Bases.{Bases}
-use Rattle.events.specs.Held.{queued}
-use Rattle.area.specs.Marks.{markOf}
+use Rattle.area.specs.Views.{markOf, queued}
 use Rattle.events.proofs.TurnLaws.{Ready}
 use Rattle.components.specs.Gathering.{Ctx, Gathering}
 use Rattle.components.proofs.MeetLaws.{met, met-size, met-frame, met-past, met-before, met-last, met-mark, met-others}

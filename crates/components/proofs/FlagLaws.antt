@@ -23,10 +23,9 @@ use Rattle.graph.proofs.DecodeLaws.{the-atoms}
 use Rattle.area.specs.declared.Bases.{Bases}
 use Rattle.area.specs.Layout.{Based}
 use Rattle.area.proofs.PartLaws.{frame-at}
-use Rattle.events.specs.Held.{queued}
-use Rattle.area.specs.Marks.{markOf, markIn}
+use Rattle.area.specs.Views.{markOf, markIn, flagAt, queued}
 use Rattle.events.proofs.VertexLaws.{tables-same}
-use Rattle.components.specs.Classes.{Classifying, Flagged, Component, Sweeping, Gathered, Classified, ordered, flagAt, flagMember}
+use Rattle.components.specs.Classes.{Classifying, Flagged, Component, Sweeping, Gathered, Classified, ordered, flagMember}
 use Rattle.components.proofs.GatherLaws.{queued-same, ordered-same}
 
 cons : (b : Bases) (w : List ℕ) (i : ℕ) → queued b w (i + 1) ≡ getD w (b .queue + i) 0 ∷ queued b w i

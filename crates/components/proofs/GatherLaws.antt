@@ -22,8 +22,7 @@ use Rattle.theory.proofs.PrefixLaws.{upto-same, upto-length}
 use Rattle.graph.proofs.DecodeLaws.{the-atoms, the-nodes}
 use Rattle.area.specs.declared.Bases.{Bases}
 use Rattle.area.specs.Layout.{Based}
-use Rattle.events.specs.Held.{queued}
-use Rattle.area.specs.Marks.{markOf, markIn}
+use Rattle.area.specs.Views.{markOf, markIn, queued}
 use Rattle.components.specs.Classes.{Classifying, Kept, Gathered, Searched, ordered}
 use Rattle.components.proofs.MeetLaws.{met, met-size, met-frame, met-past, met-before, met-last, met-mark, met-others}
 

@@ -8,7 +8,7 @@ use lib.ListN.{length, getD, set, take, length-set}
 use lib.Seq.{getD-set-same, getD-set-other, take-set-le}
 use Rattle.area.specs.declared.Bases.{Bases}
 use Rattle.area.specs.Layout.{Laid}
-use Rattle.area.specs.Marks.{markOf}
+use Rattle.area.specs.Views.{markOf}
 
 -- the words once v is met, the queue being t long
 abbrev pub met : Bases → List ℕ → (t v : ℕ) → List ℕ

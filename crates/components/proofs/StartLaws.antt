@@ -15,7 +15,7 @@ use Rattle.area.specs.Layout.{Based}
 use Rattle.area.proofs.PartLaws.{frame-at, frame-less}
 use Rattle.area.proofs.FillLaws.{Filled}
 use Rattle.events.specs.Held.{Tables}
-use Rattle.area.specs.Marks.{markOf, markIn}
+use Rattle.area.specs.Views.{markOf, markIn}
 use Rattle.events.proofs.VertexLaws.{tables-same}
 use Rattle.finishing.specs.Latest.{latest}
 use Rattle.finishing.specs.Finished.{Finished}

@@ -21,8 +21,7 @@ use Rattle.theory.proofs.DriveLaws.{follows-all, drives-all}
 use Rattle.graph.proofs.DecodeLaws.{the-atoms}
 use Rattle.area.specs.declared.Bases.{Bases}
 use Rattle.area.specs.Layout.{Laid, Based}
-use Rattle.events.specs.Held.{queued}
-use Rattle.area.specs.Marks.{markIn}
+use Rattle.area.specs.Views.{markIn, queued}
 use Rattle.events.proofs.VertexLaws.{tables-same}
 use Rattle.components.specs.Gathering.{Gathering}
 use Rattle.components.specs.Classes.{Classifying, Kept, Gathered, Searched, ordered, ctxOf}

@@ -14,16 +14,13 @@ use Rattle.theory.specs.Unfounded.{OnClosedWalk}
 use Rattle.theory.specs.Search.{Swept}
 use Rattle.theory.specs.Prefix.{upto, between}
 use Rattle.area.specs.declared.Bases.{Bases}
-use Rattle.events.specs.Held.{Tables, queued}
-use Rattle.area.specs.Marks.{markIn}
+use Rattle.area.specs.Views.{markIn, flagAt, queued}
+use Rattle.events.specs.Held.{Tables}
 use Rattle.components.specs.Gathering.{Ctx, Gathering}
 
 -- the first n of the finishing order, the last one first
 abbrev pub ordered : Bases → List ℕ → ℕ → List ℕ
 ordered b w n = upto n (drop (b .«body_nodes») w)
-
-abbrev pub flagAt : Bases → List ℕ → ℕ → ℕ
-flagAt b w a = getD w (b .«cyclic_atoms» + a) 0
 
 -- between two searches: n of the finishing order may still be a root, and the first `found` of the queue are whole components
 pub record Classifying (ws : List ℕ) (b : Bases) (w : List ℕ) (n found : ℕ) : Type 0 where

@@ -7,9 +7,8 @@ use Rattle.theory.specs.Sets.{Set}
 use Rattle.theory.specs.Search.{Within, Collecting}
 use Rattle.theory.specs.Prefix.{between}
 use Rattle.area.specs.declared.Bases.{Bases}
-use Rattle.area.specs.Marks.{markIn}
+use Rattle.area.specs.Views.{markIn, queued}
 use Rattle.area.specs.Layout.{Laid}
-use Rattle.events.specs.Held.{queued}
 
 -- what a search is about: the graph, its root, the vertices that may be a root after it, those of its members whose rows have been begun, and how many
 -- vertices of the queue are of other components; and words to hold against, as many of their queue as stay

@@ -20,8 +20,8 @@ use Rattle.theory.proofs.SetLaws.{clash, and-intro, and-left, and-right, is-fal
 use Rattle.theory.proofs.EdgeLaws.{cone-body}
 use Rattle.area.specs.declared.Bases.{Bases}
 use Rattle.area.specs.Layout.{Laid, Based}
-use Rattle.area.specs.Marks.{markOf}
-use Rattle.area.proofs.PartLaws.{frame-less}
+use Rattle.area.specs.Views.{markOf}
+use Rattle.area.proofs.PartLaws.{frame-less, behind-more}
 use Rattle.area.proofs.FillLaws.{Filled}
 use Rattle.area.proofs.ListLaws.{list-more, list-after, drop-later}
 use Rattle.cones.specs.declared.Cone.{Cone}
@@ -46,7 +46,7 @@ marks-part laid ends = (omega arith, omega arith)
 
 module _ {b : Bases} (laid : Laid b) {w w′ : List ℕ} (c : Filled (b .states + b .atoms) (b .states + b .atoms + b .nodes) 0 w w′) where
   pub cleared-kept : Kept b w w′
-  cleared-kept = record { size = c .size; tables = frame-less (b .states + b .atoms) w w′ (c .before) (b .states) (omega arith); flags = c .after (b .«cyclic_atoms») (omega arith) }
+  cleared-kept = record { size = c .size; tables = frame-less (b .states + b .atoms) w w′ (c .before) (b .states) (omega arith); flags = behind-more (b .states + b .atoms + b .nodes) w w′ (c .after) (b .«cyclic_atoms») (omega arith) }
 
   pub cleared-marks : (n : ℕ) → n < b .nodes → nodeMark b w′ n ≡ 0
   cleared-marks n l = c .at (markOf b (b .atoms + n)) (omega arith) (omega arith)

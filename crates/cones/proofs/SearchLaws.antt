@@ -18,7 +18,7 @@ use Rattle.theory.proofs.SetLaws.{bool-cases, mem-member, member-mem}
 use Rattle.graph.proofs.DecodeLaws.{the-leaves}
 use Rattle.area.specs.declared.Bases.{Bases}
 use Rattle.area.specs.Layout.{Laid}
-use Rattle.area.specs.Marks.{markOf}
+use Rattle.area.specs.Views.{markOf}
 use Rattle.area.proofs.ListLaws.{list-more, list-before, list-after, list-entry, list-step}
 use Rattle.cones.specs.Cones.{nodeMark, nodesOf, Found}
 use Rattle.cones.specs.Finding.{Finding, Stage, stage, Searching}

@@ -5,14 +5,14 @@ use mathlib.Core.Bool.{Bool, true, false, _&&_, cond}
 use mathlib.Core.List.{List}
 use Prim.Native.Nat.{ℕ, _+_, _≤_, _<_}
 use lib.Dec.{eqb}
-use lib.ListN.{length, getD, take, drop}
+use lib.ListN.{length, take, drop}
 use Rattle.theory.specs.Sets.{Is, Set, Mem, any, filled, members}
 use Rattle.theory.specs.Counts.{Distinct}
 use Rattle.theory.specs.Theory.{Theory, Kind}
 use Rattle.theory.specs.Edges.{bodyCone}
 use Rattle.theory.specs.Founded.{cyclic, cyclicCone}
 use Rattle.area.specs.declared.Bases.{Bases}
-use Rattle.area.specs.Marks.{markIn}
+use Rattle.area.specs.Views.{markIn, flagAt}
 use Rattle.cones.specs.declared.Cone.{Cone}
 use Rattle.cones.specs.declared.Coned.{Coned}
 use Rattle.cones.specs.declared.Coned.the-variants.{Done, Absorbed}
@@ -42,7 +42,7 @@ module _ (th : Theory) where
 
   -- the flags of the cyclic atoms
   abbrev pub Flagged : Bases → List ℕ → Type 0
-  Flagged b w = (a : ℕ) → a < th .atoms → (getD w (b .«cyclic_atoms» + a) 0 ≡ 1) ↔ Is (cyclic th a)
+  Flagged b w = (a : ℕ) → a < th .atoms → (flagAt b w a ≡ 1) ↔ Is (cyclic th a)
 
   -- the set s of nodes: a mark each, 1 in s and 0 outside, and a list of them without repeats
   pub record Found (s : Set) (b : Bases) (w : List ℕ) (count : ℕ) : Type 0 where

@@ -26,7 +26,8 @@ use Rattle.theory.proofs.WorklistLaws.{worklist-start}
 use Rattle.theory.proofs.KahnLaws.{kahn-open, kahn-closed}
 use Rattle.area.specs.declared.Bases.{Bases}
 use Rattle.area.proofs.PartLaws.{frame-at, frame-less}
-use Rattle.events.specs.Held.{Tables, countAt, queued}
+use Rattle.area.specs.Views.{countAt, queued}
+use Rattle.events.specs.Held.{Tables}
 use Rattle.events.specs.Run.{Running, Ran}
 use Rattle.events.proofs.VertexLaws.{tables-same}
 use Rattle.cycles.specs.Held.{Counting, Looked}

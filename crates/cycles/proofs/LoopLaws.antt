@@ -19,7 +19,7 @@ use Rattle.theory.proofs.PrefixLaws.{upto-length, upto-push}
 use Rattle.area.specs.declared.Bases.{Bases}
 use Rattle.area.specs.Layout.{Laid}
 use Rattle.area.proofs.PartLaws.{frame-at}
-use Rattle.events.specs.Held.{countAt, queued}
+use Rattle.area.specs.Views.{countAt, queued}
 use Rattle.events.proofs.VertexLaws.{tables-same}
 use Rattle.cycles.specs.Held.{Shape, Started, degreeBy, Counting, Looked}
 use Rattle.cycles.proofs.DegreeLaws.{below-fact, below-heads, degree-atom, degree-node, degree-few}

@@ -12,7 +12,8 @@ use Rattle.theory.specs.Theory.{Theory, WellFormed}
 use Rattle.theory.specs.Edges.{bodiesBelow, preds}
 use Rattle.area.specs.declared.Bases.{Bases}
 use Rattle.area.specs.Layout.{Laid}
-use Rattle.events.specs.Held.{Tables, countAt, queued}
+use Rattle.area.specs.Views.{countAt, queued}
+use Rattle.events.specs.Held.{Tables}
 
 -- what does not change: the counts, the regions, the tables
 pub record Shape (lim : ℕ) (th : Theory) (b : Bases) (w : List ℕ) : Type 0 where

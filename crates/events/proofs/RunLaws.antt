@@ -23,7 +23,8 @@ use Rattle.theory.proofs.DriveLaws.{follows-all, drives-all}
 use Rattle.graph.proofs.DecodeLaws.{the-atoms, the-nodes}
 use Rattle.area.specs.declared.Bases.{Bases}
 use Rattle.area.specs.Layout.{Based}
-use Rattle.events.specs.Held.{Held, countAt, queued}
+use Rattle.area.specs.Views.{countAt, queued}
+use Rattle.events.specs.Held.{Held}
 use Rattle.events.specs.Run.{runCtx, Running}
 
 module _ {ws : List ℕ} {ed : Edition} (acc : Accepted ed ws) {b : Bases} {words : ℕ} (based : Based ws words b) where

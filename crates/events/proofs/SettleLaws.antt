@@ -4,18 +4,19 @@ use mathlib.Core.Logic.{_≢_}
 use mathlib.Core.List.{List, [], _∷_}
 use Prim.Native.Nat.{ℕ, zero, suc, _+_, _-_, _≤_, _<_}
 use native.Mathlib.Omega.{arith}
-use native.Mathlib.Numerals.{add-one}
 use mir.Val.{boolByte}
 use borrow.Author.Tests.{lt-ltb}
 use lib.Dec.{ltb}
-use lib.ListN.{length, getD, set, drop, length-set, length-drop}
-use lib.Seq.{set-getD, getD-set-same, getD-set-other, take-set-le, drop-set-lt, drop-set-add}
-use Rattle.theory.proofs.PrefixLaws.{upto-length, upto-push}
+use lib.ListN.{length, getD, set, drop, length-set}
+use lib.Seq.{set-getD, getD-set-other, take-set-le}
+use Rattle.theory.proofs.PrefixLaws.{upto-length}
 use Rattle.theory.specs.Worklist.{Worklist}
 use Rattle.theory.proofs.WorklistLaws.{entry-low, entry-idle, entry-count, entry-found, entry-room}
 use Rattle.theory.specs.Drive.{Follows, Drives}
 use Rattle.area.specs.declared.Bases.{Bases}
-use Rattle.events.specs.Held.{Ctx, Held, countAt, queued}
+use Rattle.area.specs.Views.{countAt, queued}
+use Rattle.area.proofs.ViewLaws.{count-same, count-other, count-queue, push-count, push-queue}
+use Rattle.events.specs.Held.{Ctx, Held}
 use Rattle.events.proofs.TurnLaws.{Ready}
 
 -- one if there is something to wait for
@@ -42,17 +43,14 @@ module _ {lim : ℕ} {b : Bases} {w : List ℕ} {t v : ℕ} where
     }
 
     module _ (n : ℕ) (en : n + 1 ≡ getD w (b .dependencies + v) 0) where
-      inside : b .dependencies + v < length w
-      inside = let l = h .laid in let k = low in let q = h .long in omega arith
+      here : countAt b (set w (b .dependencies + v) n) v ≡ n
+      here = count-same (h .laid) w (h .long) v n low
 
-      fewer : getD w (b .dependencies + v) 0 ≡ suc (getD (set w (b .dependencies + v) n) (b .dependencies + v) 0)
-      fewer = rw (getD-set-same w (b .dependencies + v) n 0 inside) (omega arith)
+      fewer : countAt b w v ≡ suc (countAt b (set w (b .dependencies + v) n) v)
+      fewer = rw here (omega arith)
 
-      others : (x : ℕ) → x < b .atoms + b .nodes → x ≢ v → getD (set w (b .dependencies + v) n) (b .dependencies + x) 0 ≡ getD w (b .dependencies + x) 0
-      others x l k = getD-set-other w (b .dependencies + v) (b .dependencies + x) n 0 (λ e. k (omega arith))
-
-      queue-same : drop (b .queue) (set w (b .dependencies + v) n) ≡ drop (b .queue) w
-      queue-same = drop-set-lt (b .queue) w (b .dependencies + v) n (let l = h .laid in let k = low in omega arith)
+      others : (x : ℕ) → x < b .atoms + b .nodes → x ≢ v → countAt b (set w (b .dependencies + v) n) x ≡ countAt b w x
+      others x l k = count-other (h .laid) w (h .long) v n low x k
 
       held-count : 0 < n → Held lim b c (set w (b .dependencies + v) n) t todo
       held-count p = record {
@@ -61,8 +59,7 @@ module _ {lim : ℕ} {b : Bases} {w : List ℕ} {t v : ℕ} where
         small = h .small;
         fore = h .fore;
         front = λ i l. let q = h .laid in let x = low in getD-set-other w (b .dependencies + v) (b .queue + i) n 0 (λ e. omega arith) ∙ h .front i l;
-        settling = rw queue-same
-            (entry-count (b .atoms + b .nodes) (c .mode) (c .pred) list (countAt b (set w (b .dependencies + v) n)) fewer others (rw (getD-set-same w (b .dependencies + v) n 0 inside) p));
+        settling = rw (count-queue (h .laid) w (h .long) v n low t) (entry-count (b .atoms + b .nodes) (c .mode) (c .pred) list (countAt b (set w (b .dependencies + v) n)) fewer others (rw here p));
       }
 
       room : t < b .atoms + b .nodes
@@ -71,8 +68,8 @@ module _ {lim : ℕ} {b : Bases} {w : List ℕ} {t v : ℕ} where
           omega (arith, upto-length t (drop (b .queue) w))
 
       -- the counts after the vertex is on the queue
-      beyond : (x : ℕ) → x < b .atoms + b .nodes → getD (set (set w (b .dependencies + v) n) (b .queue + t) v) (b .dependencies + x) 0 ≡ getD (set w (b .dependencies + v) n) (b .dependencies + x) 0
-      beyond x l = let k = h .laid in getD-set-other (set w (b .dependencies + v) n) (b .queue + t) (b .dependencies + x) v 0 (λ e. omega arith)
+      beyond : (x : ℕ) → x < b .atoms + b .nodes → countAt b (set (set w (b .dependencies + v) n) (b .queue + t) v) x ≡ countAt b (set w (b .dependencies + v) n) x
+      beyond x l = push-count (h .laid) (set w (b .dependencies + v) n) (rw length-set (h .long)) t v room x l
 
       held-found : n ≡ 0 → Held lim b c (set (set w (b .dependencies + v) n) (b .queue + t) v) (t + 1) todo
       held-found z = record {
@@ -84,9 +81,9 @@ module _ {lim : ℕ} {b : Bases} {w : List ℕ} {t v : ℕ} where
             let q = h .laid in let x = low in let a = h .fore in
             getD-set-other (set w (b .dependencies + v) n) (b .queue + t) (b .queue + i) v 0 (λ e. omega arith) ∙ getD-set-other w (b .dependencies + v) (b .queue + i) n 0 (λ e. omega arith) ∙ h .front i l;
         settling =
-            rw (add-one t, drop-set-add (b .queue) (set w (b .dependencies + v) n) t v, queue-same, upto-push t v (drop (b .queue) w) (let l = h .laid in let q = h .long in let r = room in simp length-drop (omega arith)))
+            rw (push-queue (h .laid) (set w (b .dependencies + v) n) (rw length-set (h .long)) t v room, count-queue (h .laid) w (h .long) v n low t)
             (entry-found (b .atoms + b .nodes) (c .mode) (c .pred) list (countAt b (set (set w (b .dependencies + v) n) (b .queue + t) v))
-            (rw (beyond v low) fewer) (λ x l k. beyond x l ∙ others x l k) (beyond v low ∙ rw (getD-set-same w (b .dependencies + v) n 0 inside) z));
+            (rw (beyond v low) fewer) (λ x l k. beyond x l ∙ others x l k) (beyond v low ∙ here ∙ z));
       }
 
   -- ---- as the function sees it

@@ -12,7 +12,7 @@ use Rattle.theory.proofs.DriveLaws.{turn-next, turn-more, turn-done, slice-turn
 use Rattle.area.specs.declared.Bases.{Bases}
 use Rattle.area.specs.Layout.{Laid}
 use Rattle.area.proofs.PartLaws.{frame-at}
-use Rattle.events.specs.Held.{shifted}
+use Rattle.area.specs.Views.{asVertices}
 use Rattle.events.proofs.FlatLaws.{flat-cons, flat-none}
 
 -- what an entry's step may rely on
@@ -32,16 +32,16 @@ module _ {Ctx : Type 0} {P : Ctx → List ℕ → ℕ → List ℕ → Type 0} {
   row-turn : {l : List ℕ} → Drives P n w₀ tail l₀ w t l → n ≤ length w₀ → {i to x : ℕ} → to ≤ n → i < to → x ≡ getD w i 0 → slice i to w₀ ≡ x ∷ slice (i + 1) to w₀
   row-turn d long {i} {to} below h ex = slice-turn i to w₀ h (omega arith) (word-same d (omega arith) ex)
 
-  module _ (b : Bases) (i to : ℕ) (d : Drives P n w₀ tail l₀ w t (shifted b (slice i to w₀))) where
+  module _ (b : Bases) (i to : ℕ) (d : Drives P n w₀ tail l₀ w t (asVertices b (slice i to w₀))) where
     pub nodes-done : to ≤ i → i ≤ to → Drives P n w₀ tail l₀ w t []
-    nodes-done h k = turn-done P (shifted b) (λ x. (b .atoms + x) ∷ []) (λ x l. refl) d (row-end i to w₀ h k) refl
+    nodes-done h k = turn-done P (asVertices b) (λ x. (b .atoms + x) ∷ []) (λ x l. refl) d (row-end i to w₀ h k) refl
 
     module _ (long : n ≤ length w₀) (below : to ≤ n) (h : i < to) {x : ℕ} (ex : x ≡ getD w i 0) where
       pub nodes-next : Follows P w₀ tail l₀ → Follows P w t ((b .atoms + x) ∷ [])
-      nodes-next f = turn-next P (shifted b) (λ x. (b .atoms + x) ∷ []) (λ x l. refl) d (row-turn d long below h ex) f
+      nodes-next f = turn-next P (asVertices b) (λ x. (b .atoms + x) ∷ []) (λ x l. refl) d (row-turn d long below h ex) f
 
-      pub nodes-more : {w₁ : List ℕ} {t₁ : ℕ} → Drives P n w t ((b .atoms + x) ∷ []) w₁ t₁ [] → Drives P n w₀ tail l₀ w₁ t₁ (shifted b (slice (i + 1) to w₀))
-      nodes-more s = turn-more P (shifted b) (λ x. (b .atoms + x) ∷ []) (λ x l. refl) d (row-turn d long below h ex) s
+      pub nodes-more : {w₁ : List ℕ} {t₁ : ℕ} → Drives P n w t ((b .atoms + x) ∷ []) w₁ t₁ [] → Drives P n w₀ tail l₀ w₁ t₁ (asVertices b (slice (i + 1) to w₀))
+      nodes-more s = turn-more P (asVertices b) (λ x. (b .atoms + x) ∷ []) (λ x l. refl) d (row-turn d long below h ex) s
 
   module _ (f : ℕ → List ℕ) (i to : ℕ) (d : Drives P n w₀ tail l₀ w t (flatMap f (slice i to w₀))) where
     pub flat-done : to ≤ i → i ≤ to → Drives P n w₀ tail l₀ w t []

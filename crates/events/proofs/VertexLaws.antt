@@ -16,7 +16,8 @@ use Rattle.area.specs.declared.Bases.{Bases}
 use Rattle.area.specs.Layout.{Based}
 use Rattle.adjacency.specs.Tables.{startAt, rowAt, Tabled}
 use Rattle.adjacency.proofs.TableLaws.{kept}
-use Rattle.events.specs.Held.{shifted, Spanned, Named, Tables}
+use Rattle.area.specs.Views.{asVertices}
+use Rattle.events.specs.Held.{Spanned, Named, Tables}
 
 mem-getD : (l : List ℕ) (i : ℕ) → i < length l → Mem (getD l i 0) l
 mem-getD [] i h = absurd (omega arith)
@@ -67,7 +68,7 @@ module _ {ws w : List ℕ} {b : Bases} {words : ℕ} (based : Based ws words b) 
       (rw (body-row m l) at (slice-mem (startAt w (b .«by_body») (b .nodes) m) (startAt w (b .«by_body») (b .nodes) (m + 1)) w i f k (omega arith)))
 
   -- the rows of an atom and of a node
-  pub atom-row : (a : ℕ) → a < b .atoms → succs (theoryOf ws) a ≡ shifted b (rowAt w (b .«atom_nodes») (b .atoms) a)
+  pub atom-row : (a : ℕ) → a < b .atoms → succs (theoryOf ws) a ≡ asVertices b (rowAt w (b .«atom_nodes») (b .atoms) a)
   unfolding atomNodes
   atom-row a l =
       let e = counts .0 in
@@ -75,7 +76,7 @@ module _ {ws w : List ℕ} {b : Bases} {words : ℕ} (based : Based ws words b) 
       succs-atom (theoryOf ws) a (omega arith) ∙ ap₂ (λ (k : ℕ) (x : List ℕ). map (λ n. k + n) x) (sym e) (sym r)
 
   pub node-row : (v : ℕ) → b .atoms ≤ v → v < b .atoms + b .nodes
-      → succs (theoryOf ws) v ≡ shifted b (rowAt w (b .parents) (b .nodes) (v - b .atoms)) ++ flatMap (theoryOf ws .heads) (rowAt w (b .«by_body») (b .nodes) (v - b .atoms))
+      → succs (theoryOf ws) v ≡ asVertices b (rowAt w (b .parents) (b .nodes) (v - b .atoms)) ++ flatMap (theoryOf ws .heads) (rowAt w (b .«by_body») (b .nodes) (v - b .atoms))
   unfolding nodeSuccs parents
   node-row v l k =
       let e = counts .0 in let f = counts .1 in
@@ -83,23 +84,23 @@ module _ {ws w : List ℕ} {b : Bases} {words : ℕ} (based : Based ws words b) 
       succs-node (theoryOf ws) v (omega arith)
       ∙ ap (nodeSuccs (theoryOf ws)) (ap (λ (z : ℕ). v - z) (sym e))
       ∙ ap₂ (λ (a : ℕ) (x : List ℕ). map (λ n. a + n) x ++ flatMap (theoryOf ws .heads) (entries (v - b .atoms) (byBody (theoryOf ws)))) (sym e) (sym r)
-      ∙ ap (λ (x : List ℕ). shifted b (rowAt w (b .parents) (b .nodes) (v - b .atoms)) ++ flatMap (theoryOf ws .heads) x) (sym (body-row (v - b .atoms) (omega arith)))
+      ∙ ap (λ (x : List ℕ). asVertices b (rowAt w (b .parents) (b .nodes) (v - b .atoms)) ++ flatMap (theoryOf ws .heads) x) (sym (body-row (v - b .atoms) (omega arith)))
 
 -- ---- a node's row is its parents and then its producers' heads, whatever is kept meanwhile
 
 module _ {Ctx : Type 0} {P : Ctx → List ℕ → ℕ → List ℕ → Type 0} {ws w : List ℕ} {b : Bases} {words tail : ℕ} (based : Based ws words b) (t : Tables (theoryOf ws) b w) {v : ℕ} (l : b .atoms ≤ v) (k : v < b .atoms + b .nodes)
     (f : Follows P w tail (succs (theoryOf ws) v)) where
-  pub parents-next : Follows P w tail (shifted b (rowAt w (b .parents) (b .nodes) (v - b .atoms)))
-  parents-next = follows-next P (shifted b (rowAt w (b .parents) (b .nodes) (v - b .atoms))) (flatMap (theoryOf ws .heads) (rowAt w (b .«by_body») (b .nodes) (v - b .atoms))) (node-row based t v l k) (drives-none P {n = b .states}) f
+  pub parents-next : Follows P w tail (asVertices b (rowAt w (b .parents) (b .nodes) (v - b .atoms)))
+  parents-next = follows-next P (asVertices b (rowAt w (b .parents) (b .nodes) (v - b .atoms))) (flatMap (theoryOf ws .heads) (rowAt w (b .«by_body») (b .nodes) (v - b .atoms))) (node-row based t v l k) (drives-none P {n = b .states}) f
 
-  module _ {w₁ : List ℕ} {t₁ : ℕ} (d : Drives P (b .states) w tail (shifted b (rowAt w (b .parents) (b .nodes) (v - b .atoms))) w₁ t₁ []) where
+  module _ {w₁ : List ℕ} {t₁ : ℕ} (d : Drives P (b .states) w tail (asVertices b (rowAt w (b .parents) (b .nodes) (v - b .atoms))) w₁ t₁ []) where
     pub later : Tables (theoryOf ws) b w₁
     later = tables-same (d .frame) (d .size) t
 
     middle : Drives P (b .states) w tail (succs (theoryOf ws) v) w₁ t₁ (flatMap (theoryOf ws .heads) (rowAt w₁ (b .«by_body») (b .nodes) (v - b .atoms)))
     middle =
         let r = body-row based t (v - b .atoms) (omega arith) ∙ sym (body-row based later (v - b .atoms) (omega arith)) in
-        rw r at (drives-step P (shifted b (rowAt w (b .parents) (b .nodes) (v - b .atoms))) (flatMap (theoryOf ws .heads) (rowAt w (b .«by_body») (b .nodes) (v - b .atoms))) (node-row based t v l k) (drives-none P) d)
+        rw r at (drives-step P (asVertices b (rowAt w (b .parents) (b .nodes) (v - b .atoms))) (flatMap (theoryOf ws .heads) (rowAt w (b .«by_body») (b .nodes) (v - b .atoms))) (node-row based t v l k) (drives-none P) d)
 
     pub body-next : Follows P w₁ t₁ (flatMap (theoryOf ws .heads) (rowAt w₁ (b .«by_body») (b .nodes) (v - b .atoms)))
     body-next = follows-next P _ [] (sym (append-nil _)) middle f

@@ -1,24 +1,16 @@
 -- What the words hold while the entries of a row are settled: counts and the queue; and what is said of the tables that have the rows.
 use mathlib.Core.Path.{_≡_}
-use mathlib.Core.List.{List, map}
+use mathlib.Core.List.{List}
 use Prim.Native.Nat.{ℕ, _+_, _≤_, _<_}
-use lib.ListN.{length, getD, drop}
+use lib.ListN.{length, getD}
 use Rattle.theory.specs.Theory.{Theory}
 use Rattle.theory.specs.Closure.{Mode}
 use Rattle.theory.specs.Worklist.{Worklist}
-use Rattle.theory.specs.Prefix.{upto}
 use Rattle.area.specs.declared.Bases.{Bases}
+use Rattle.area.specs.Views.{countAt, queued}
 use Rattle.area.specs.Layout.{Laid}
 use Rattle.adjacency.specs.declared.Table.the-variants.{AtomNodes, Parents, ByBody}
 use Rattle.adjacency.specs.Tables.{startAt, Tabled, edgesOf}
-
--- what vertex v waits for
-abbrev pub countAt : Bases → List ℕ → ℕ → ℕ
-countAt b w v = getD w (b .dependencies + v) 0
-
--- the first n entries of the queue, the last one first
-abbrev pub queued : Bases → List ℕ → ℕ → List ℕ
-queued b w n = upto n (drop (b .queue) w)
 
 -- what a worklist is about: the modes and the predecessors, the vertices whose rows have been begun; and words to hold against, as many of their queue as
 -- stay
@@ -37,10 +29,6 @@ pub record Held (lim : ℕ) (b : Bases) (c : Ctx) (w : List ℕ) (t : ℕ) (todo
   pub fore : c .front ≤ t
   pub front : (i : ℕ) → i < c .front → getD w (b .queue + i) 0 ≡ getD (c .base) (b .queue + i) 0
   pub settling : Worklist (b .atoms + b .nodes) (c .mode) (c .pred) (queued b w t) (c .done) todo (countAt b w)
-
--- nodes as vertices
-abbrev pub shifted : Bases → List ℕ → List ℕ
-shifted b l = map (λ n. b .atoms + n) l
 
 -- row r of the table at base lies in the first n words
 pub record Spanned (n : ℕ) (w : List ℕ) (base rows r : ℕ) : Type 0 where

@@ -8,7 +8,8 @@ use Rattle.theory.specs.Words.{theoryOf}
 use Rattle.theory.specs.Edges.{preds}
 use Rattle.theory.specs.Closure.{Mode}
 use Rattle.area.specs.declared.Bases.{Bases}
-use Rattle.events.specs.Held.{Ctx, Held, queued}
+use Rattle.area.specs.Views.{queued}
+use Rattle.events.specs.Held.{Ctx, Held}
 
 abbrev pub runCtx : (ws : List ℕ) (mode : ℕ → Mode) (done w : List ℕ) (t : ℕ) → Ctx
 runCtx ws mode done w t = record {

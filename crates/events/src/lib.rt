@@ -9,7 +9,8 @@ ghost use Rattle.theory.specs.Rows.{flatMap, succs};
 ghost use Rattle.theory.specs.Drive.{Follows, Drives};
 ghost use Rattle.area.specs.Layout.{basesOf, Based};
 ghost use Rattle.adjacency.specs.Tables.{startAt, rowAt};
-ghost use Rattle.events.specs.Held.{Held, shifted, Spanned, Named, Tables};
+ghost use Rattle.area.specs.Views.{asVertices};
+ghost use Rattle.events.specs.Held.{Held, Spanned, Named, Tables};
 ghost use Rattle.events.specs.Run.{Running, Ran};
 ghost use Rattle.theory.specs.Closure.{Mode};
 use area::Bases;
@@ -33,8 +34,8 @@ fn settle(work: &mut [u16], b: Bases, v: usize, tail: usize) -> usize
 // The nodes that stand in the tables from one place to another.
 fn visit_nodes(work: &mut [u16], b: Bases, from: usize, to: usize, tail: usize) -> usize
     requires { ⌜ (from ≤ to) × (to ≤ b .states) ⌝ }
-    requires { ⌜ Follows (Held 65536 b) (now work) tail (shifted b (slice from to (now work))) ⌝ }
-    ensures { λ r. ⌜ Drives (Held 65536 b) (b .states) (now (work .entry)) tail (shifted b (slice from to (now (work .entry)))) (now (work .exit)) r [] ⌝ }
+    requires { ⌜ Follows (Held 65536 b) (now work) tail (asVertices b (slice from to (now work))) ⌝ }
+    ensures { λ r. ⌜ Drives (Held 65536 b) (b .states) (now (work .entry)) tail (asVertices b (slice from to (now (work .entry)))) (now (work .exit)) r [] ⌝ }
 {
     let mut t = tail;
     let mut i = from;
@@ -86,8 +87,8 @@ fn visit_producers(
 
 fn visit_row(work: &mut [u16], b: Bases, base: usize, rows: usize, r: usize, tail: usize) -> usize
     requires { ⌜ Spanned (b .states) (now work) base rows r ⌝ }
-    requires { ⌜ Follows (Held 65536 b) (now work) tail (shifted b (rowAt (now work) base rows r)) ⌝ }
-    ensures { λ x. ⌜ Drives (Held 65536 b) (b .states) (now (work .entry)) tail (shifted b (rowAt (now (work .entry)) base rows r)) (now (work .exit)) x [] ⌝ }
+    requires { ⌜ Follows (Held 65536 b) (now work) tail (asVertices b (rowAt (now work) base rows r)) ⌝ }
+    ensures { λ x. ⌜ Drives (Held 65536 b) (b .states) (now (work .entry)) tail (asVertices b (rowAt (now (work .entry)) base rows r)) (now (work .exit)) x [] ⌝ }
 {
     let from = adjacency::row_start(work, base, rows, r);
     let to = adjacency::row_start(work, base, rows, r + 1);

@@ -15,7 +15,7 @@ use Rattle.theory.specs.Accepted.{Edition, Accepted}
 use Rattle.theory.proofs.SetLaws.{bool-cases}
 use Rattle.theory.proofs.SearchLaws.{search-start, search-root, search-end}
 use Rattle.area.specs.declared.Bases.{Bases}
-use Rattle.area.specs.Marks.{markIn}
+use Rattle.area.specs.Views.{markIn}
 use Rattle.finishing.specs.Cursors.{leftOf, Linked}
 use Rattle.finishing.specs.Finished.{Ready, Marked, Finished}
 use Rattle.finishing.specs.Walking.{cursorIn, Walking, discovered, Entered, known, new, Walked, Onward, Stepped, Descended}

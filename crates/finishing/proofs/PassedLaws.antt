@@ -15,7 +15,7 @@ use Rattle.theory.specs.Accepted.{Edition, edition1, Accepted}
 use Rattle.theory.proofs.SetLaws.{clash, eq-is, is-eq}
 use Rattle.graph.specs.Layout.{ProducerIn}
 use Rattle.area.specs.declared.Bases.{Bases}
-use Rattle.area.specs.Marks.{markIn}
+use Rattle.area.specs.Views.{markIn}
 use Rattle.adjacency.specs.Tables.{startAt}
 use Rattle.finishing.specs.declared.Entry.{Entry}
 use Rattle.finishing.specs.declared.Entry.the-variants.{Vertex, Done}

@@ -13,7 +13,7 @@ use Rattle.area.specs.declared.Bases.{Bases}
 use Rattle.area.specs.Layout.{Based}
 use Rattle.area.proofs.PartLaws.{frame-less}
 use Rattle.adjacency.proofs.TableLaws.{kept as table-kept}
-use Rattle.area.specs.Marks.{markOf}
+use Rattle.area.specs.Views.{markOf}
 use Rattle.finishing.specs.Finished.{Kept, Ready}
 
 module _ {ws : List ℕ} {n : ℕ} {b : Bases} (based : Based ws n b) where

@@ -17,7 +17,7 @@ use Rattle.theory.proofs.ConeLaws.{cone-within}
 use Rattle.theory.proofs.SearchLaws.{fin-fits, stack-fits, search-same, entry-edge, search-known, search-new, search-finish}
 use Rattle.area.specs.declared.Bases.{Bases}
 use Rattle.finishing.specs.declared.Entry.the-variants.{Vertex, Done}
-use Rattle.area.specs.Marks.{markIn}
+use Rattle.area.specs.Views.{markIn}
 use Rattle.finishing.specs.Latest.{latest}
 use Rattle.finishing.specs.Cursors.{leftOf, Linked}
 use Rattle.finishing.specs.Finished.{Kept, Ready}

@@ -14,7 +14,7 @@ use lib.Seq.{getD-set-same, getD-set-other}
 use Rattle.theory.specs.Words.{theoryOf}
 use Rattle.theory.specs.Edges.{vertices}
 use Rattle.area.specs.declared.Bases.{Bases}
-use Rattle.area.specs.Marks.{markOf, markIn}
+use Rattle.area.specs.Views.{markOf, markIn}
 use Rattle.finishing.specs.Latest.{latest}
 use Rattle.finishing.specs.Cursors.{firstOf}
 use Rattle.finishing.specs.Finished.{Kept, Ready}

@@ -12,7 +12,7 @@ use Rattle.area.specs.declared.Bases.{Bases}
 use Rattle.area.specs.Layout.{Based}
 use Rattle.adjacency.specs.Tables.{rowsOf, edgesOf, baseOf, nextOf, Tabled}
 use Rattle.adjacency.specs.declared.Table.the-variants.{ByHead}
-use Rattle.area.specs.Marks.{markIn}
+use Rattle.area.specs.Views.{markIn}
 use Rattle.finishing.specs.Latest.{latest}
 
 -- what stays: the length and the tables

@@ -14,7 +14,7 @@ use Rattle.theory.specs.Search.{Searching}
 use Rattle.area.specs.declared.Bases.{Bases}
 use Rattle.finishing.specs.declared.Entry.{Entry}
 use Rattle.finishing.specs.declared.Entry.the-variants.{Vertex, Done}
-use Rattle.area.specs.Marks.{markOf, markIn}
+use Rattle.area.specs.Views.{markOf, markIn}
 use Rattle.finishing.specs.Latest.{latest}
 use Rattle.finishing.specs.Finished.{Kept, Ready}
 use Rattle.finishing.specs.Cursors.{leftOf, firstOf, Linked, Took}

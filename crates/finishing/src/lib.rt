@@ -10,7 +10,7 @@ ghost use Rattle.theory.specs.Words.{theoryOf};
 ghost use Rattle.theory.specs.Edges.{vertices};
 ghost use Rattle.theory.specs.Accepted.{Accepted, edition1};
 ghost use Rattle.area.specs.Layout.{Laid};
-ghost use Rattle.area.specs.Marks.{markIn};
+ghost use Rattle.area.specs.Views.{markIn};
 ghost use Rattle.finishing.specs.Cursors.{hasOperand, firstOf};
 ghost use Rattle.finishing.specs.Finished.{Ready, Marked, Finished};
 ghost use Rattle.finishing.specs.Walking.{Walking, OnTop, Found, Meeting, discovered, Onward, Stepped, Entered, Descended};

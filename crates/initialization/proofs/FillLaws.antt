@@ -13,9 +13,12 @@ use Rattle.theory.proofs.SetLaws.{is-false}
 use Rattle.theory.proofs.PassStartLaws.{first-none}
 use Rattle.area.specs.declared.Bases.{Bases}
 use Rattle.area.specs.Layout.{Laid}
-use Rattle.initialization.specs.Regions.{countOf, Flagged}
+use Rattle.area.specs.Views.{countAt}
+use Rattle.initialization.specs.Regions.{Flagged}
 use Rattle.initialization.specs.Start.{Filled}
-use Rattle.initialization.proofs.RegionLaws.{outside-none, outside-then, outside-set, behind-more, flagged-kept, count-same, count-other}
+use Rattle.area.proofs.ViewLaws.{count-same, count-other}
+use Rattle.area.proofs.PartLaws.{behind-more}
+use Rattle.initialization.proofs.RegionLaws.{outside-none, outside-then, outside-set, flagged-kept}
 
 -- ---- a flag
 
@@ -63,6 +66,6 @@ filled-more {b} {cut} {w₀} {w} {v} laid long l f {k} is = record {
   counts = λ s g u h. go s g u (ℕ-discrete u v) h;
 }
   where
-    go : (s : Set) → Flagged b w₀ s → (u : ℕ) → Dec (u ≡ v) → u < v + 1 → countOf b (set w (b .dependencies + v) k) u ≡ firstCount s cut u
+    go : (s : Set) → Flagged b w₀ s → (u : ℕ) → Dec (u ≡ v) → u < v + 1 → countAt b (set w (b .dependencies + v) k) u ≡ firstCount s cut u
     go s g u (yes e) h = rw e (count-same laid w long v k l ∙ is s (flagged-kept laid w₀ w (behind-more (b .queue) w₀ w (f .outside .after) (b .«body_nodes») (omega arith)) g))
     go s g u (no n) h = count-other laid w long v k l u n ∙ f .counts s g u (omega arith)

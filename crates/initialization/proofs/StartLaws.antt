@@ -24,9 +24,12 @@ use Rattle.area.specs.declared.Bases.{Bases}
 use Rattle.area.specs.Layout.{Laid, Based}
 use Rattle.initialization.specs.declared.Initial.{Initial}
 use Rattle.initialization.specs.declared.Initial.the-variants.{Inactive, Awaiting, True}
-use Rattle.initialization.specs.Regions.{countOf, queued, coneNodes, factRows, asVertices, Prepared, Outside, Begun}
+use Rattle.area.specs.Views.{countAt, queued, asVertices}
+use Rattle.initialization.specs.Regions.{coneNodes, factRows, Prepared, Outside, Begun}
 use Rattle.initialization.specs.Start.{initialAt, Filled, Context, At, passContext, AtNodes}
-use Rattle.initialization.proofs.RegionLaws.{outside-none, outside-set, outside-then, behind-more, cone-same, prepared-kept, count-same, count-other, count-queue, push-count, push-queue}
+use Rattle.area.proofs.ViewLaws.{count-same, count-other, count-queue, push-count, push-queue}
+use Rattle.area.proofs.PartLaws.{behind-more}
+use Rattle.initialization.proofs.RegionLaws.{outside-none, outside-set, outside-then, cone-same, prepared-kept}
 use Rattle.initialization.proofs.InitialLaws.{told-dead, told-true, told-waits, told-fits}
 
 -- what a step goes by: vertex v has a count
@@ -53,7 +56,7 @@ module _ {b : Bases} {w : List ℕ} {t a : ℕ} where
       let l = h .starting .named a (List·Memᴰ·head refl) .0 in
       record { laid = h .laid; low = omega arith; long = h .long }
 
-  pub head-fits : Follows (At b) w t (a ∷ []) → 0 < countOf b w a → t < b .atoms + b .nodes
+  pub head-fits : Follows (At b) w t (a ∷ []) → 0 < countAt b w a → t < b .atoms + b .nodes
   head-fits f p =
       let h = f .held in
       let e = h .bound in
@@ -61,14 +64,14 @@ module _ {b : Bases} {w : List ℕ} {t a : ℕ} where
       let k = upto-length t (drop (b .queue) w) in
       omega arith
 
-  pub head-passes : {n : ℕ} → countOf b w a ≡ 0 → Drives (At b) n w t (a ∷ []) w t []
+  pub head-passes : {n : ℕ} → countAt b w a ≡ 0 → Drives (At b) n w t (a ∷ []) w t []
   head-passes z = record {
     frame = refl;
     size = refl;
     keeps = λ c more h. record { laid = h .laid; bound = h .bound; long = h .long; kept = h .kept; starting = head-passed (c .bound) (c .mode) (c .pred) (h .starting) z };
   }
 
-  pub head-pushes : Follows (At b) w t (a ∷ []) → 0 < countOf b w a
+  pub head-pushes : Follows (At b) w t (a ∷ []) → 0 < countAt b w a
       → Drives (At b) (b .dependencies) w t (a ∷ []) (set (set w (b .dependencies + a) 0) (b .queue + t) a) (t + 1) []
   head-pushes f p = record {
     frame = out .before;
@@ -134,7 +137,7 @@ module _ {ws : List ℕ} {never atomNever : Set} {b : Bases} {w : List ℕ} {t v
 
   -- a store outside the tables and the lists, after which the nodes but v are still to be started
   after : (w′ : List ℕ) (t′ : ℕ) → Outside (b .dependencies) (b .«body_nodes») w w′
-      → ((more : List ℕ) → Starting (vertices (theoryOf ws)) mode pred [] (v ∷ more) (queued b w t) (countOf b w) → Starting (vertices (theoryOf ws)) mode pred [] more (queued b w′ t′) (countOf b w′))
+      → ((more : List ℕ) → Starting (vertices (theoryOf ws)) mode pred [] (v ∷ more) (queued b w t) (countAt b w) → Starting (vertices (theoryOf ws)) mode pred [] more (queued b w′ t′) (countAt b w′))
       → Drives (AtNodes ws never atomNever b) (b .dependencies) w t (v ∷ []) w′ t′ []
   after w′ t′ out step = record {
     frame = out .before;
@@ -191,7 +194,7 @@ module _ {ed : Edition} {ws : List ℕ} (acc : Accepted ed ws) {never atomNever 
 -- ---- the beginning, from one part to the next, and the end
 
 starts : {ed : Edition} {ws : List ℕ} → Accepted ed ws → (never atomNever : Set) {b : Bases} {w : List ℕ} {nodes facts : ℕ} → Based ws (length w) b → Prepared ws b w nodes facts
-    → ((v : ℕ) → v < b .atoms + b .nodes → countOf b w v ≡ firstCount (cyclic (theoryOf ws)) atomNever v)
+    → ((v : ℕ) → v < b .atoms + b .nodes → countAt b w v ≡ firstCount (cyclic (theoryOf ws)) atomNever v)
     → At b (passContext ws never atomNever (asVertices b (coneNodes b w nodes)) (drop (b .«body_nodes») w)) w 0 (flatMap (theoryOf ws .heads) (factRows b w facts))
 unfolding upto cyclicCone vertices theoryOf
 starts {ws = ws} acc never atomNever {b} {w} {nodes} {facts} base p filled = record {
@@ -200,10 +203,10 @@ starts {ws = ws} acc never atomNever {b} {w} {nodes} {facts} base p filled = rec
   long = base .ends;
   kept = refl;
   starting =
-      subst (λ (l : List ℕ). Starting (vertices (theoryOf ws)) (passMode (theoryOf ws) (cyclicCone (theoryOf ws)) never atomNever) (preds (theoryOf ws) everyone) (flatMap (theoryOf ws .heads) (factRows b w facts)) l [] (countOf b w))
+      subst (λ (l : List ℕ). Starting (vertices (theoryOf ws)) (passMode (theoryOf ws) (cyclicCone (theoryOf ws)) never atomNever) (preds (theoryOf ws) everyone) (flatMap (theoryOf ws .heads) (factRows b w facts)) l [] (countAt b w))
       (ap (λ (k : ℕ). map (λ n. k + n) (coneNodes b w nodes)) (sym (base .atoms)))
       (pass-begin (theoryOf ws) (acc .well-formed) (cyclicCone (theoryOf ws)) never atomNever (cone-bound (theoryOf ws) (λ q. any (cyclic (theoryOf ws)) (theoryOf ws .heads q)))
-      (factRows b w facts) (coneNodes b w nodes) (p .stated .are) (p .cone .are) (countOf b w) (λ v l. let x = base .atoms in let y = base .nodes in filled v (omega arith)) (p .cone .once));
+      (factRows b w facts) (coneNodes b w nodes) (p .stated .are) (p .cone .are) (countAt b w) (λ v l. let x = base .atoms in let y = base .nodes in filled v (omega arith)) (p .cone .once));
 }
 
 -- with the counts filled

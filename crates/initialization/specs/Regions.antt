@@ -2,9 +2,9 @@
 use mathlib.Core.Path.{_≡_}
 use mathlib.Core.Logic.{_↔_}
 use mathlib.Core.Bool.{cond}
-use mathlib.Core.List.{List, map}
-use Prim.Native.Nat.{ℕ, _+_, _≤_, _<_}
-use lib.ListN.{length, getD, take, drop}
+use mathlib.Core.List.{List}
+use Prim.Native.Nat.{ℕ, _≤_, _<_}
+use lib.ListN.{length, take, drop}
 use Rattle.theory.specs.Sets.{Set, Is, everyone, Mem, any}
 use Rattle.theory.specs.Counts.{Distinct}
 use Rattle.theory.specs.Edges.{vertices, preds}
@@ -14,14 +14,7 @@ use Rattle.theory.specs.Prefix.{upto}
 use Rattle.theory.specs.Worklist.{Started}
 use Rattle.theory.specs.Pass.{passMode}
 use Rattle.area.specs.declared.Bases.{Bases}
-
--- how many entries vertex v waits for
-abbrev pub countOf : Bases → List ℕ → ℕ → ℕ
-countOf b w v = getD w (b .dependencies + v) 0
-
--- the first t vertices on the queue, the last one first
-abbrev pub queued : Bases → List ℕ → ℕ → List ℕ
-queued b w t = upto t (drop (b .queue) w)
+use Rattle.area.specs.Views.{countAt, flagAt, queued}
 
 -- so many nodes of a cone, and so many facts
 abbrev pub coneNodes : Bases → List ℕ → ℕ → List ℕ
@@ -30,14 +23,10 @@ coneNodes b w n = upto n (drop (b .«body_nodes») w)
 abbrev pub factRows : Bases → List ℕ → ℕ → List ℕ
 factRows b w n = upto n (drop (b .«fact_rows») w)
 
--- nodes as vertices
-abbrev pub asVertices : Bases → List ℕ → List ℕ
-asVertices b nodes = map (λ n. b .atoms + n) nodes
-
 -- the flags of the atoms are a set's
 pub record Flagged (b : Bases) (w : List ℕ) (s : Set) : Type 0 where
   pub low : (a : ℕ) → Is (s a) → a < b .atoms
-  pub flag : (a : ℕ) → a < b .atoms → getD w (b .«cyclic_atoms» + a) 0 ≡ cond (s a) 1 0
+  pub flag : (a : ℕ) → a < b .atoms → flagAt b w a ≡ cond (s a) 1 0
 
 -- a list has the nodes of the cyclic cone, each of them once
 pub record ConeListed (ws nodes : List ℕ) : Type 0 where
@@ -65,4 +54,4 @@ pub record Outside (from to : ℕ) (w w′ : List ℕ) : Type 0 where
 -- what the start leaves, with t vertices on the queue: counts and queue are written, nothing else
 pub record Begun (ws : List ℕ) (never atomNever : Set) (b : Bases) (w w′ : List ℕ) (t : ℕ) : Type 0 where
   pub outside : Outside (b .dependencies) (b .«body_nodes») w w′
-  pub started : Started (vertices (theoryOf ws)) (passMode (theoryOf ws) (cyclicCone (theoryOf ws)) never atomNever) (preds (theoryOf ws) everyone) (queued b w′ t) (countOf b w′)
+  pub started : Started (vertices (theoryOf ws)) (passMode (theoryOf ws) (cyclicCone (theoryOf ws)) never atomNever) (preds (theoryOf ws) everyone) (queued b w′ t) (countAt b w′)

@@ -14,7 +14,8 @@ use Rattle.area.specs.declared.Bases.{Bases}
 use Rattle.area.specs.Layout.{Laid}
 use Rattle.initialization.specs.declared.Initial.{Initial}
 use Rattle.initialization.specs.declared.Initial.the-variants.{Inactive, Awaiting, True}
-use Rattle.initialization.specs.Regions.{countOf, queued, Flagged, Outside}
+use Rattle.area.specs.Views.{countAt, queued}
+use Rattle.initialization.specs.Regions.{Flagged, Outside}
 
 -- the start state of a vertex to which n entries lead
 unfoldable pub initialOf : Mode → ℕ → Initial
@@ -30,7 +31,7 @@ initialAt ws never atomNever n = initialOf (nodeMode (theoryOf ws) (cyclicCone (
 -- the counts below v are filled, whatever set is flagged
 pub record Filled (b : Bases) (cut : Set) (w w′ : List ℕ) (v : ℕ) : Type 0 where
   pub outside : Outside (b .dependencies) (b .queue) w w′
-  pub counts : (s : Set) → Flagged b w s → (u : ℕ) → u < v → countOf b w′ u ≡ firstCount s cut u
+  pub counts : (s : Set) → Flagged b w s → (u : ℕ) → u < v → countAt b w′ u ≡ firstCount s cut u
 
 -- what the walk over the facts goes by: the vertices and what each waits for, the nodes still to be started, and the words behind the queue
 pub record Context : Type 0 where
@@ -46,7 +47,7 @@ pub record At (b : Bases) (c : Context) (w : List ℕ) (t : ℕ) (heads : List �
   pub bound : c .bound ≡ b .atoms + b .nodes
   pub long : b .end ≤ length w
   pub kept : drop (b .«body_nodes») w ≡ c .behind
-  pub starting : Starting (c .bound) (c .mode) (c .pred) heads (c .nodes) (queued b w t) (countOf b w)
+  pub starting : Starting (c .bound) (c .mode) (c .pred) heads (c .nodes) (queued b w t) (countAt b w)
 
 -- the context of a graph's pass
 abbrev pub passContext : (ws : List ℕ) (never atomNever : Set) (nodes behind : List ℕ) → Context

@@ -15,7 +15,8 @@ ghost use Rattle.theory.specs.Drive.{Follows, Drives};
 ghost use Rattle.theory.specs.Pass.{kindMode};
 ghost use Rattle.theory.specs.Starting.{firstCount};
 ghost use Rattle.area.specs.Layout.{Laid, Based};
-ghost use Rattle.initialization.specs.Regions.{coneNodes, factRows, asVertices, Flagged, ConeListed, FactsListed, Prepared, Begun};
+ghost use Rattle.area.specs.Views.{asVertices};
+ghost use Rattle.initialization.specs.Regions.{coneNodes, factRows, Flagged, ConeListed, FactsListed, Prepared, Begun};
 ghost use Rattle.initialization.specs.Start.{initialOf, initialAt, Filled, At, AtNodes};
 use area::Bases;
 

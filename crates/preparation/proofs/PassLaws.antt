@@ -25,7 +25,8 @@ use Rattle.theory.proofs.WorklistLaws.{worklist-start}
 use Rattle.graph.proofs.DecodeLaws.{the-atoms, the-nodes, the-producers}
 use Rattle.area.specs.declared.Bases.{Bases}
 use Rattle.area.specs.Layout.{Based}
-use Rattle.events.specs.Held.{Tables, countAt, queued}
+use Rattle.area.specs.Views.{countAt, queued}
+use Rattle.events.specs.Held.{Tables}
 use Rattle.events.specs.Run.{Running, Ran}
 use Rattle.events.proofs.RunLaws.{run-end}
 use Rattle.events.proofs.VertexLaws.{tables-same}

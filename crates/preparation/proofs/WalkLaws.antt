@@ -16,14 +16,14 @@ use Rattle.theory.proofs.ConeLaws.{graph-atom, graph-node}
 use Rattle.graph.proofs.DecodeLaws.{the-atoms, the-nodes}
 use Rattle.area.specs.declared.Bases.{Bases}
 use Rattle.area.specs.Layout.{Laid}
-use Rattle.area.proofs.PartLaws.{frame-less}
-use Rattle.area.proofs.FillLaws.{Filled, filled-past}
+use Rattle.area.proofs.PartLaws.{frame-less, behind-at}
+use Rattle.area.proofs.FillLaws.{Filled}
 use Rattle.events.specs.Held.{Tables}
 use Rattle.adjacency.proofs.TableLaws.{kept}
 use Rattle.events.proofs.VertexLaws.{tables-same}
-use Rattle.area.specs.Marks.{markOf, markIn}
+use Rattle.area.specs.Views.{markOf, markIn, flagAt}
 use Rattle.finishing.specs.Finished as walk
-use Rattle.components.specs.Classes.{Classified, flagAt}
+use Rattle.components.specs.Classes.{Classified}
 use Rattle.preparation.specs.Stages.{Onward, Marking}
 
 pub atoms-part : {b : Bases} {words : ℕ} → Laid b → b .end ≤ words → (b .states ≤ b .states + b .atoms) × (b .states + b .atoms ≤ words)
@@ -50,7 +50,7 @@ module _ {ws : List ℕ} {ed : Edition} (acc : Accepted ed ws) {b : Bases} {w : 
       let c = counts in
       let k : theoryOf ws .atoms + (v - theoryOf ws .atoms) ≡ v = omega arith in
       let d : v ≡ b .atoms + (v - theoryOf ws .atoms) = omega arith in
-      filled-past f (markOf b v) (omega arith)
+      behind-at (b .states + b .atoms) w w₁ (f .after) (markOf b v) (omega arith)
       ∙ ap (markIn b w) d
       ∙ o .marks (v - theoryOf ws .atoms) (omega arith)
       ∙ ap (λ (x : Bool). cond x 1 0) (sym (graph-node (theoryOf ws) (v - theoryOf ws .atoms)) ∙ ap (inGraph (theoryOf ws)) k)

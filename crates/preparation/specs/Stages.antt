@@ -3,7 +3,7 @@ use mathlib.Core.Path.{_≡_}
 use mathlib.Core.Bool.{cond}
 use mathlib.Core.List.{List, []}
 use Prim.Native.Nat.{ℕ, _+_, _<_}
-use lib.ListN.{length, getD}
+use lib.ListN.{length}
 use Rattle.theory.specs.Sets.{Set}
 use Rattle.theory.specs.Words.{theoryOf}
 use Rattle.theory.specs.Edges.{bodyCone}
@@ -11,7 +11,7 @@ use Rattle.theory.specs.Founded.{cyclic, missing}
 use Rattle.theory.specs.Cases.{absorbedIn}
 use Rattle.area.specs.declared.Bases.{Bases}
 use Rattle.area.specs.Layout.{Based}
-use Rattle.area.specs.Marks.{markIn}
+use Rattle.area.specs.Views.{markIn, countAt, flagAt}
 use Rattle.adjacency.specs.Tables.{rowsOf, edgesOf, baseOf, nextOf, Tabled}
 use Rattle.adjacency.specs.declared.Table.the-variants.{ByHead}
 use Rattle.events.specs.Held.{Tables}
@@ -39,7 +39,7 @@ pub record Onward (ws : List ℕ) (b : Bases) (w : List ℕ) : Type 0 where
 pub record Marking (ws : List ℕ) (b : Bases) (w₀ w : List ℕ) : Type 0 where
   pub size : length w ≡ length w₀
   pub tables : Tables (theoryOf ws) b w
-  pub flags : (a : ℕ) → a < b .atoms → getD w (b .«cyclic_atoms» + a) 0 ≡ cond (cyclic (theoryOf ws) a) 1 0
+  pub flags : (a : ℕ) → a < b .atoms → flagAt b w a ≡ cond (cyclic (theoryOf ws) a) 1 0
 
 pub record Ready (ws : List ℕ) (b : Bases) (w₀ w : List ℕ) : Type 0 where
   pub marking : Marking ws b w₀ w
@@ -52,4 +52,4 @@ Staged ws b w₀ w (Absorbed n) = Refused ws w₀ w n
 -- the missing atoms are those that still wait
 pub record Passing (ws : List ℕ) (never atomNever : Set) (b : Bases) (w₀ w : List ℕ) : Type 0 where
   pub size : length w ≡ length w₀
-  pub flags : (a : ℕ) → a < b .atoms → getD w (b .dependencies + a) 0 ≡ cond (missing (theoryOf ws) never atomNever a) 1 0
+  pub flags : (a : ℕ) → a < b .atoms → countAt b w a ≡ cond (missing (theoryOf ws) never atomNever a) 1 0

@@ -1,6 +1,4 @@
 // Preparation and the pass on the work area: row tables, body cone, cyclic atoms; then the cyclic cone, start states and the worklist.
-ghost use mathlib.Core.Path.{_≡_};
-ghost use Prim.Native.Nat.{_+_, _<_};
 ghost use lib.ListN.{length};
 ghost use Rattle.theory.specs.Words.{bitAt};
 ghost use Rattle.theory.specs.Accepted.{Accepted, edition1};

@@ -3,7 +3,8 @@ use native.Mathlib.Omega.{arith}
 use lib.Seq.{slice}
 use Rattle.theory.specs.Drive.{Drives}
 use Rattle.theory.proofs.DriveLaws.{drives-none}
-use Rattle.events.specs.Held.{Held, shifted}
+use Rattle.area.specs.Views.{asVertices}
+use Rattle.events.specs.Held.{Held}
 use Rattle.events.proofs.TurnLaws.{nodes-next, nodes-more, nodes-done}
 use Rattle.events.proofs.SettleLaws.{ready, tables-long}
 use borrow.Author.Needs.{needs}
@@ -11,7 +12,7 @@ use Rattle.events.proofs.visit_nodes.Statement.{statement}
 use Rattle.events.proofs.visit_nodes.Tie as tie
 
 abbrev Inv-loop : tie.InvT-loop
-Inv-loop work₀ b from to tail t₀ i₀ work t i = (i ≤ to) × Drives (Held 65536 b) (b .states) work₀ tail (shifted b (slice from to work₀)) work t (shifted b (slice i to work₀))
+Inv-loop work₀ b from to tail t₀ i₀ work t i = (i ≤ to) × Drives (Held 65536 b) (b .states) work₀ tail (asVertices b (slice from to work₀)) work t (asVertices b (slice i to work₀))
 
 abbrev μ-loop : tie.MeasureT-loop
 μ-loop work₀ b from to tail t₀ i₀ work t i = to - i

@@ -1,7 +1,7 @@
 use mathlib.Core.Logic.{_≢_}
 use Prim.Native.Nat.{ℕ, _+_, _-_, _<_}
 use native.Mathlib.Omega.{arith}
-use Rattle.area.specs.Marks.{markIn}
+use Rattle.area.specs.Views.{markIn}
 use Rattle.finishing.specs.Walking.{Walked}
 use Rattle.finishing.proofs.PlaceLaws.{vertices-are}
 use Rattle.finishing.proofs.DescentLaws.{walked-none, walk-start, roots-more, walk-end}

@@ -7,7 +7,8 @@ use Rattle.theory.specs.Words.{bitAt}
 use Rattle.theory.specs.Prefix.{upto}
 use Rattle.theory.specs.Drive.{Drives}
 use Rattle.theory.proofs.DriveLaws.{drives-none, turn-next, turn-more, turn-done}
-use Rattle.initialization.specs.Regions.{coneNodes, asVertices}
+use Rattle.area.specs.Views.{asVertices}
+use Rattle.initialization.specs.Regions.{coneNodes}
 use Rattle.initialization.specs.Start.{AtNodes}
 use Rattle.initialization.proofs.RegionLaws.{flagged-kept, listed-turn, listed-mem}
 use Rattle.initialization.proofs.StartLaws.{behind-nodes}

@@ -3,7 +3,7 @@ use native.Mathlib.Omega.{arith}
 use lib.Seq.{slice}
 use Rattle.theory.specs.Drive.{Drives}
 use Rattle.theory.proofs.DriveLaws.{drives-none}
-use Rattle.events.specs.Held.{shifted}
+use Rattle.area.specs.Views.{asVertices}
 use Rattle.components.specs.Gathering.{Gathering}
 use Rattle.events.proofs.TurnLaws.{nodes-next, nodes-more, nodes-done}
 use Rattle.components.proofs.CollectLaws.{collect-ready, tables-long}
@@ -16,7 +16,7 @@ use Rattle.components.proofs.collecting.collect.Reads as collect-reads
 use Rattle.graph.proofs.at.Reads as at-reads
 
 abbrev Inv-loop : tie.InvT-loop
-Inv-loop work₀ b from to tail t₀ i₀ work t i = (i ≤ to) × Drives (Gathering 65536 b) (b .states) work₀ tail (shifted b (slice from to work₀)) work t (shifted b (slice i to work₀))
+Inv-loop work₀ b from to tail t₀ i₀ work t i = (i ≤ to) × Drives (Gathering 65536 b) (b .states) work₀ tail (asVertices b (slice from to work₀)) work t (asVertices b (slice i to work₀))
 
 abbrev μ-loop : tie.MeasureT-loop
 μ-loop work₀ b from to tail t₀ i₀ work t i = to - i
