@@ -1,4 +1,5 @@
--- A walk over the chains of all places, testing and counting each entry: what holds between two chains and along one, a link at a time.
+-- A walk over the chains of all places, testing and counting each entry: what holds between two chains and along one, a link at a time. And one chain
+-- with its entries counted (`counted-..`).
 use mathlib.Core.Path.{_≡_, refl, sym, ap, _∙_, subst}
 use mathlib.Core.Bool.{Bool, true, false, _||_, cond}
 use mathlib.Core.List.{List, [], _∷_}
@@ -10,7 +11,7 @@ use lib.Dec.{eqb, leb}
 use lib.ListN.{length, getD}
 use Rattle.theory.specs.Sets.{any, sumBelow}
 use Rattle.theory.specs.Words.{valueOf, nextOf, chainIn, chain, Ending}
-use Rattle.theory.proofs.ChainLaws.{ending-next, chain-end, chain-step}
+use Rattle.theory.proofs.ChainLaws.{ending-next, chain-end, chain-step, chain-falls}
 use Rattle.graph.specs.declared.Walk.the-variants.{Bad, Total}
 use Rattle.graph.specs.Search.{Clear, Walked, wrong, fine}
 use Rattle.graph.proofs.SearchLaws.{clear-none, clear-more, first-found, first-none}
@@ -96,3 +97,27 @@ chain-few ws l = go (getD ws 4 0) l
     go : (fuel l : ℕ) → length (chainIn ws fuel l) ≤ fuel
     go zero l = omega arith
     go (suc fuel) l = cut (eqb l 0) (valueOf ws l) (chainIn ws fuel (nextOf ws l)) fuel (go fuel (nextOf ws l))
+
+-- ---- one chain, its entries counted
+
+-- n entries come before link l
+pub record Counted (ws : List ℕ) (first n l : ℕ) : Type 0 where
+  pub ending : Ending ws l
+  pub counted : n + length (chain ws l) ≡ length (chain ws first)
+
+pub counted-none : {ws : List ℕ} {first : ℕ} → Ending ws first → Counted ws first 0 first
+counted-none e = record { ending = e; counted = omega arith }
+
+module _ {ws : List ℕ} {first n l : ℕ} (c : Counted ws first n l) where
+  pub counted-end : l ≡ 0 → n ≡ length (chain ws first)
+  counted-end z = let e = ap length (ap (chain ws) z ∙ chain-end ws) in let k = c .counted in omega arith
+
+  pub counted-few : n ≤ getD ws 4 0
+  counted-few = let k = c .counted in let m = chain-few ws first in omega arith
+
+  module _ (z : l ≡ 0 → ⊥) {m : ℕ} (e : m ≡ nextOf ws l) where
+    pub counted-less : length (chain ws m) < length (chain ws l)
+    counted-less = rw e (chain-falls ws (c .ending) z)
+
+    pub counted-next : Counted ws first (n + 1) m
+    counted-next = let h = ap length (chain-step ws (c .ending) z) in let k = c .counted in record { ending = rw e (ending-next ws (c .ending) z); counted = rw e (omega arith) }
