@@ -13,8 +13,8 @@ pub record Filled (a e x : ℕ) (w w′ : List ℕ) : Type 0 where
   pub at : (i : ℕ) → a ≤ i → i < e → getD w′ i 0 ≡ x
   pub after : drop e w′ ≡ drop e w
 
-pub filled : {a e x : ℕ} {w p : List ℕ} → p ≡ replicate (length (take (e - a) (drop a w))) x → (a ≤ e) × (e ≤ length w) → Filled a e x w (take a w ++ (p ++ drop (e - a) (drop a w)))
-filled {a} {e} {x} {w} {p} same (h, k) = record {
+pub filled : {a e x : ℕ} {w p : List ℕ} → (a ≤ e) × (e ≤ length w) → p ≡ replicate (length (take (e - a) (drop a w))) x → Filled a e x w (take a w ++ (p ++ drop (e - a) (drop a w)))
+filled {a} {e} {x} {w} {p} (h, k) same = record {
   size = part-length a e w p h k long;
   before = part-before a e w p h k long;
   at = λ i l u.

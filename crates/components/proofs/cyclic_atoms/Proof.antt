@@ -34,7 +34,7 @@ classify-requires c κs =
     let c-finish-order = p1 .finish-order in
     let p2 = p1 .before .before .before .before in
     let c-pre = p2 .pre in
-    let f = filled (c-clear .ensures) (flags-part (c-pre .0) (c-pre .1 .based) (c-pre .2) (c-finish-order .ensures)) in
+    let f = filled (flags-part (c-pre .0) (c-pre .1 .based) (c-pre .2) (c-finish-order .ensures)) (c-clear .ensures) in
     (c-pre .0, rw (sizes (c-pre .0) (c-pre .1 .based) (c-pre .2) (c-finish-order .ensures) f) (c-pre .1 .based), sweep-begin (c-pre .0) (c-pre .1 .based) (c-pre .2) (c-finish-order .ensures) f)
 
 same-length : tie.Need-same-length
@@ -49,7 +49,7 @@ returns c =
     let c-finish-order = p2 .finish-order in
     let p3 = p2 .before .before .before .before in
     let c-pre = p3 .pre in
-    let f = filled (c-clear .ensures) (flags-part (c-pre .0) (c-pre .1 .based) (c-pre .2) (c-finish-order .ensures)) in
+    let f = filled (flags-part (c-pre .0) (c-pre .1 .based) (c-pre .2) (c-finish-order .ensures)) (c-clear .ensures) in
     sweep-finish (c-pre .0) (c-pre .1 .based) (c-pre .2) (c-finish-order .ensures) f (c-classify .ensures)
 
 pub cyclic-atoms-spec : {M : Type 1} → statement M

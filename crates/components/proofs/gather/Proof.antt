@@ -1,4 +1,5 @@
 use mathlib.Core.Path.{sym, _∙_}
+use Prim.Native.Nat.{_+_, _<_}
 use native.Mathlib.Omega.{arith}
 use lib.ListN.{length-set}
 use Rattle.events.proofs.VertexLaws.{tables-same}
@@ -31,7 +32,7 @@ add-m c =
     let p1 = c .before .before .before .before .before .before in
     let c-pre = p1 .pre in
     let c-args = p1 .args in
-    let l = c-pre .1 .laid in let q = c-pre .1 .ends in let r = root-in (c-pre .0) (c-pre .1) (c-args .n) (c-args .found) (c-pre .2) .1 in let e = c-at .ensures .0 in omega arith
+    let l = c-pre .1 .laid in let q = c-pre .1 .ends in let r = root-in (c-pre .0) (c-pre .1) (c-args .n) (c-args .found) (c-pre .2) .1 in let k : c-at .result < (c-args .b) .atoms + (c-args .b) .nodes = rw (c-at .ensures .0) r in omega arith
 
 at-requires-2 : tie.Need-at-requires-2
 at-requires-2 c κs =
@@ -39,7 +40,7 @@ at-requires-2 c κs =
     let p1 = c .before .before .before .before .before .before .before in
     let c-pre = p1 .pre in
     let c-args = p1 .args in
-    let q = c-pre .1 .ends in let r = root-in (c-pre .0) (c-pre .1) (c-args .n) (c-args .found) (c-pre .2) .1 in let l = c-pre .1 .laid in let e = c-at .ensures .0 in omega arith
+    let q = c-pre .1 .ends in let r = root-in (c-pre .0) (c-pre .1) (c-args .n) (c-args .found) (c-pre .2) .1 in let l = c-pre .1 .laid in let k : c-at .result < (c-args .b) .atoms + (c-args .b) .nodes = rw (c-at .ensures .0) r in omega arith
 
 same-length : tie.Need-same-length
 same-length c = search needs
@@ -62,7 +63,7 @@ put-requires c κs =
     let p2 = p1 .before .before .before .before .before .before in
     let c-pre = p2 .pre in
     let c-args = p2 .args in
-    let q = c-pre .1 .ends in let r = root-in (c-pre .0) (c-pre .1) (c-args .n) (c-args .found) (c-pre .2) .1 in let l = c-pre .1 .laid in let e = c-at .ensures .0 in (omega arith, omega arith)
+    let q = c-pre .1 .ends in let r = root-in (c-pre .0) (c-pre .1) (c-args .n) (c-args .found) (c-pre .2) .1 in let l = c-pre .1 .laid in let k : c-at .result < (c-args .b) .atoms + (c-args .b) .nodes = rw (c-at .ensures .0) r in (omega arith, omega arith)
 
 add-put : tie.Need-add-put
 add-put c =

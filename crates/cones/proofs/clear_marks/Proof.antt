@@ -33,7 +33,7 @@ returns c =
     let c-clear = c .before .before .clear in
     let p1 = c .before .before .before .before .before in
     let c-pre = p1 .before .before .pre in
-    let f = filled (c-clear .ensures) (marks-part (c-pre .0) (c-pre .1)) in
+    let f = filled (marks-part (c-pre .0) (c-pre .1)) (c-clear .ensures) in
     (cleared-kept (c-pre .0) f, cleared-marks (c-pre .0) f)
 
 pub clear-marks-spec : {M : Type 1} → statement M

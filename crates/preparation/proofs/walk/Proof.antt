@@ -27,7 +27,7 @@ cyclic-atoms-requires c κs =
     let c-fill = c .before .before .before .fill in
     let p1 = c .before .before .before .before .before .before .before .before in
     let c-pre = p1 .pre in
-    let f = filled (c-fill .ensures) (atoms-part (c-pre .1 .based .laid) (c-pre .1 .based .ends)) in
+    let f = filled (atoms-part (c-pre .1 .based .laid) (c-pre .1 .based .ends)) (c-fill .ensures) in
     (c-pre .0, ready₁ (c-pre .0) (c-pre .1) f, tables₁ (c-pre .0) (c-pre .1) f, marked₁ (c-pre .0) (c-pre .1) f)
 
 same-length : tie.Need-same-length
@@ -40,7 +40,7 @@ returns c =
     let c-fill = p1 .fill in
     let p2 = p1 .before .before .before .before .before in
     let c-pre = p2 .pre in
-    marking₁ (c-pre .0) (c-pre .1) (filled (c-fill .ensures) (atoms-part (c-pre .1 .based .laid) (c-pre .1 .based .ends))) (c-cyclic-atoms .ensures)
+    marking₁ (c-pre .0) (c-pre .1) (filled (atoms-part (c-pre .1 .based .laid) (c-pre .1 .based .ends)) (c-fill .ensures)) (c-cyclic-atoms .ensures)
 
 pub walk-spec : {M : Type 1} → statement M
 walk-spec =
