@@ -1,7 +1,7 @@
 -- Where the regions of the work area stand: each ends at or before the next, and the last within the area.
 use mathlib.Core.Path.{_≡_}
 use mathlib.Core.List.{List}
-use Prim.Native.Nat.{ℕ, _+_, _*_, _≤_}
+use Prim.Native.Nat.{ℕ, _+_, _-_, _*_, _/_, _≤_}
 use lib.ListN.{getD}
 use Rattle.theory.specs.Words.{theoryOf}
 use Rattle.theory.specs.Accepted.{leafEntries, headEntries}
@@ -57,9 +57,19 @@ layOut atoms nodes producers leaves heads =
       end = cyclic-atoms + atoms;
     }
 
--- those of a graph of the first edition
-abbrev pub basesOf : List ℕ → Bases
-basesOf ws = layOut (getD ws 1 0) (getD ws 2 0) (getD ws 3 0) 4096 4096
+-- those of a graph in an area of so many words: leaf entries and head entries have half each of what the other regions leave
+unfoldable pub entriesIn : (words atoms nodes producers : ℕ) → ℕ
+entriesIn words atoms nodes producers = (words - (7 * atoms + 7 * nodes + 2 * producers + 5)) / 2
+
+abbrev pub basesOf : (ws : List ℕ) (words : ℕ) → Bases
+basesOf ws words =
+    let entries = entriesIn words (getD ws 1 0) (getD ws 2 0) (getD ws 3 0) in
+    layOut (getD ws 1 0) (getD ws 2 0) (getD ws 3 0) entries entries
+
+-- an area of so many words has room for the graph
+pub record Roomy (ws : List ℕ) (words : ℕ) : Type 0 where
+  pub leaves : wordsFor (getD ws 1 0) (getD ws 2 0) (getD ws 3 0) (leafEntries (theoryOf ws)) (leafEntries (theoryOf ws)) ≤ words
+  pub heads : wordsFor (getD ws 1 0) (getD ws 2 0) (getD ws 3 0) (headEntries (theoryOf ws)) (headEntries (theoryOf ws)) ≤ words
 
 pub record LaidOut (atoms nodes producers leaves heads : ℕ) (b : Bases) : Type 0 where
   pub laid : Laid b
@@ -80,4 +90,4 @@ pub record Based (ws : List ℕ) (words : ℕ) (b : Bases) : Type 0 where
   pub leaves : leafEntries (theoryOf ws) ≤ b .«leaf_entries»
   pub heads : headEntries (theoryOf ws) ≤ b .«head_entries»
   pub ends : b .end ≤ words
-  pub is : b ≡ basesOf ws
+  pub is : b ≡ basesOf ws words

@@ -1,10 +1,12 @@
-// The work area's words: storing, clearing, and where the regions begin. A word is read by `graph::at`.
+// The work area's words: how many, storing, clearing, and where the regions begin. A word is read by `graph::at`.
+pub mod length;
+
 ghost use mathlib.Core.Path.{_≡_};
 ghost use mathlib.Core.Bool.{true};
-ghost use Prim.Native.Nat.{_<_, _^_};
+ghost use Prim.Native.Nat.{_<_, _≤_, _^_};
 ghost use lib.ListN.{length, set, replicate};
 ghost use Rattle.theory.specs.Accepted.{Accepted, edition1};
-ghost use Rattle.area.specs.Layout.{wordsFor, LaidOut, Based};
+ghost use Rattle.area.specs.Layout.{wordsFor, LaidOut, Roomy, Based};
 
 pub fn put(words: &mut [u16], i: usize, x: usize)
     requires { ⌜ (i < length (now words)) × (x < 65536) ⌝ }
@@ -96,7 +98,7 @@ pub fn lay_out(
     leaf_entries: usize,
     head_entries: usize,
 ) -> Bases
-    requires { ⌜ wordsFor atoms nodes producers «leaf_entries» «head_entries» < 2 ^ 63 ⌝ }
+    requires { ⌜ wordsFor atoms nodes producers «leaf_entries» «head_entries» < 2 ^ 64 ⌝ }
     ensures { λ b. ⌜ LaidOut atoms nodes producers «leaf_entries» «head_entries» b ⌝ }
 {
     let parents = atoms + 1 + nodes;
@@ -128,17 +130,15 @@ pub fn lay_out(
     }
 }
 
-// Those of an accepted graph. A function with several callers, which is not inlined, works them out anew: handed over, a copy would take 128 bytes of each
-// caller's stack.
-pub fn bases_of(graph: &[u16]) -> Bases
-    requires { ⌜ Accepted edition1 (now graph) ⌝ }
-    ensures { λ b. ⌜ Based (now (graph .entry)) 32768 b ⌝ }
+// Those of an accepted graph, in an area of so many words. A function with several callers, which is not inlined, works them out anew: handed over, a copy
+// would take 128 bytes of each caller's stack.
+pub fn bases_of(graph: &[u16], words: usize) -> Bases
+    requires { ⌜ Accepted edition1 (now graph) × Roomy (now graph) words ⌝ }
+    ensures { λ b. ⌜ Based (now (graph .entry)) words b ⌝ }
 {
-    lay_out(
-        graph::atoms(graph),
-        graph::nodes(graph),
-        graph::producers(graph),
-        4096,
-        4096,
-    )
+    let atoms = graph::atoms(graph);
+    let nodes = graph::nodes(graph);
+    let producers = graph::producers(graph);
+    let entries = (words - (7 * atoms + 7 * nodes + 2 * producers + 5)) / 2;
+    lay_out(atoms, nodes, producers, entries, entries)
 }

@@ -9,7 +9,7 @@ use lib.ListN.{length, getD, drop, length-set}
 use lib.Seq.{getD-drop}
 use Rattle.theory.specs.Sets.{Is, Mem, everyone}
 use Rattle.theory.specs.Words.{theoryOf}
-use Rattle.theory.specs.Accepted.{Accepted, Edition, edition1}
+use Rattle.theory.specs.Accepted.{Accepted, Edition}
 use Rattle.theory.specs.Edges.{vertices, preds, inGraph, conePreds}
 use Rattle.theory.specs.Rows.{succs}
 use Rattle.theory.specs.Search.{Within, Swept}
@@ -33,8 +33,8 @@ queued-same b n w w′ h = upto-same n (drop (b .queue) w′) (drop (b .queue) w
 pub ordered-same : (b : Bases) (n : ℕ) (w w′ : List ℕ) → ((i : ℕ) → i < n → getD w′ (b .«body_nodes» + i) 0 ≡ getD w (b .«body_nodes» + i) 0) → ordered b w′ n ≡ ordered b w n
 ordered-same b n w w′ h = upto-same n (drop (b .«body_nodes») w′) (drop (b .«body_nodes») w) (λ i l. getD-drop (b .«body_nodes») w′ i 0 ∙ h i l ∙ sym (getD-drop (b .«body_nodes») w i 0))
 
-pub small : {ws : List ℕ} {b : Bases} {words : ℕ} → Accepted edition1 ws → Based ws words b → b .atoms + b .nodes < 65536
-small acc based = let x = acc .atoms-few in let y = acc .nodes-few in let p = based .atoms in let q = based .nodes in omega arith
+pub small : (lim : ℕ) {ed : Edition} {ws : List ℕ} {b : Bases} {words : ℕ} → Accepted ed ws → Based ws words b → ed .counts + ed .counts < lim → b .atoms + b .nodes < lim
+small lim acc based fits = let x = acc .atoms-few in let y = acc .nodes-few in let p = based .atoms in let q = based .nodes in omega arith
 
 module _ {ws : List ℕ} {ed : Edition} (acc : Accepted ed ws) {b : Bases} {words : ℕ} (based : Based ws words b) where
   pub count : vertices (theoryOf ws) ≡ b .atoms + b .nodes
@@ -96,7 +96,7 @@ module _ {ws : List ℕ} {ed : Edition} (acc : Accepted ed ws) {b : Bases} {word
         three (inl e) = absurd (k e)
         three (inr e) = e
 
-    module _ (long : b .end ≤ length w) (small : b .atoms + b .nodes < 65536) (two : getD w (markOf b (getD w (b .«body_nodes» + n) 0)) 0 ≡ 2) where
+    module _ {lim : ℕ} (long : b .end ≤ length w) (small : b .atoms + b .nodes < lim) (two : getD w (markOf b (getD w (b .«body_nodes» + n) 0)) 0 ≡ 2) where
       -- there is room on the queue
       pub root-room : found < b .atoms + b .nodes
       root-room =
@@ -124,7 +124,7 @@ module _ {ws : List ℕ} {ed : Edition} (acc : Accepted ed ws) {b : Bases} {word
             let d = based .laid in
             record { size = met-size d w found x root-room low; tables = met-frame d w found x root-room low; past = met-past d w found x root-room low }
 
-        pub gather-start : Searched ws b w (met b w found x) n found found (found + 1)
+        pub gather-start : Searched lim ws b w (met b w found x) n found found (found + 1)
         gather-start = record {
           kept = kept₁;
           after = omega arith;

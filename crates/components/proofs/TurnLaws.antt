@@ -27,8 +27,8 @@ use Rattle.components.specs.Gathering.{Gathering}
 use Rattle.components.specs.Classes.{Classifying, Kept, Gathered, Searched, ordered, ctxOf}
 use Rattle.components.proofs.GatherLaws.{within, row-all, row-edges, ordered-same, left}
 
-module _ {ws : List ℕ} {ed : Edition} (acc : Accepted ed ws) {b : Bases} {words : ℕ} (based : Based ws words b) {w₀ w : List ℕ} (n found head tail : ℕ) (r : Searched ws b w₀ w n found head tail) where
-  g : Gathering 65536 b (ctxOf ws b w₀ n found (between found (head - found) (drop (b .queue) w)) w tail) w tail []
+module _ {ws : List ℕ} {ed : Edition} (acc : Accepted ed ws) {b : Bases} {words : ℕ} (based : Based ws words b) {lim : ℕ} {w₀ w : List ℕ} (n found head tail : ℕ) (r : Searched lim ws b w₀ w n found head tail) where
+  g : Gathering lim b (ctxOf ws b w₀ n found (between found (head - found) (drop (b .queue) w)) w tail) w tail []
   g = r .held
 
   c : Collecting (b .atoms + b .nodes) (conePreds (theoryOf ws)) (inGraph (theoryOf ws)) (getD w₀ (b .«body_nodes» + n) 0) (ordered b w₀ n) (queued b w found) (between found (tail - found) (drop (b .queue) w)) (between found (head - found) (drop (b .queue) w)) [] (markIn b w)
@@ -50,7 +50,7 @@ module _ {ws : List ℕ} {ed : Edition} (acc : Accepted ed ws) {b : Bases} {word
     pub head-low : v < b .atoms + b .nodes
     head-low = c .low v (Memᴰ·append-left (queued b w found) member)
 
-    begun : Gathering 65536 b (ctxOf ws b w₀ n found (v ∷ between found (head - found) (drop (b .queue) w)) w tail) w tail (succs (theoryOf ws) v)
+    begun : Gathering lim b (ctxOf ws b w₀ n found (v ∷ between found (head - found) (drop (b .queue) w)) w tail) w tail (succs (theoryOf ws) v)
     begun = record {
       laid = r .held .laid;
       long = r .held .long;
@@ -63,12 +63,12 @@ module _ {ws : List ℕ} {ed : Edition} (acc : Accepted ed ws) {b : Bases} {word
       collecting = collect-row (b .atoms + b .nodes) (conePreds (theoryOf ws)) (inGraph (theoryOf ws)) (g .within) c v member (succs (theoryOf ws) v) (row-all acc based v) (row-edges acc based v);
     }
 
-    pub turn-follows : Follows (Gathering 65536 b) w tail (succs (theoryOf ws) v)
-    turn-follows = follows-all (Gathering 65536 b) begun
+    pub turn-follows : Follows (Gathering lim b) w tail (succs (theoryOf ws) v)
+    turn-follows = follows-all (Gathering lim b) begun
 
-    module _ {w′ : List ℕ} {t′ : ℕ} (d : Drives (Gathering 65536 b) (b .states) w tail (succs (theoryOf ws) v) w′ t′ []) where
-      k : Gathering 65536 b (ctxOf ws b w₀ n found (v ∷ between found (head - found) (drop (b .queue) w)) w tail) w′ t′ []
-      k = drives-all (Gathering 65536 b) begun d
+    module _ {w′ : List ℕ} {t′ : ℕ} (d : Drives (Gathering lim b) (b .states) w tail (succs (theoryOf ws) v) w′ t′ []) where
+      k : Gathering lim b (ctxOf ws b w₀ n found (v ∷ between found (head - found) (drop (b .queue) w)) w tail) w′ t′ []
+      k = drives-all (Gathering lim b) begun d
 
       same : (i : ℕ) → i < tail → getD (drop (b .queue) w′) i 0 ≡ getD (drop (b .queue) w) i 0
       same i l = getD-drop (b .queue) w′ i 0 ∙ k .front i l ∙ sym (getD-drop (b .queue) w i 0)
@@ -82,7 +82,7 @@ module _ {ws : List ℕ} {ed : Edition} (acc : Accepted ed ws) {b : Bases} {word
           ap (λ (x : ℕ). between found x (drop (b .queue) w′)) e
           ∙ ap₂ (λ (x : ℕ) (l : List ℕ). x ∷ l) (ap (λ (x : ℕ). getD (drop (b .queue) w′) x 0) z ∙ same head h ∙ at-head) (between-same found (head - found) (drop (b .queue) w′) (drop (b .queue) w) (λ i l. same i (omega arith)))
 
-      pub turn-next : Searched ws b w₀ w′ n found (head + 1) t′
+      pub turn-next : Searched lim ws b w₀ w′ n found (head + 1) t′
       turn-next =
           let a = r .after in let f = k .fore in let l = r .held .laid in
           record {
@@ -147,7 +147,7 @@ module _ {b : Bases} (laid : Laid b) {w₀ w₁ : List ℕ} (k : Kept b w₀ w�
   order-kept : ordered b w₁ n ≡ ordered b w₀ n
   order-kept = ordered-same b n w₀ w₁ (λ i l. k .past (b .«body_nodes» + i) (omega arith))
 
-  pub search-restart : {ws : List ℕ} {found : ℕ} → Searched ws b w₀ w₁ n found found (found + 1) → Searched ws b w₁ w₁ n found found (found + 1)
+  pub search-restart : {lim : ℕ} {ws : List ℕ} {found : ℕ} → Searched lim ws b w₀ w₁ n found found (found + 1) → Searched lim ws b w₁ w₁ n found found (found + 1)
   search-restart r = record {
     kept = record { size = refl; tables = refl; past = λ i l. refl };
     after = r .after;
@@ -156,7 +156,7 @@ module _ {b : Bases} (laid : Laid b) {w₀ w₁ : List ℕ} (k : Kept b w₀ w�
     held = rw (root-same, order-kept) (r .held);
   }
 
-  pub search-join : {ws w₂ : List ℕ} {found head tail : ℕ} → ((i : ℕ) → i < found → getD w₁ (b .queue + i) 0 ≡ getD w₀ (b .queue + i) 0) → Searched ws b w₁ w₂ n found head tail → Searched ws b w₀ w₂ n found head tail
+  pub search-join : {lim : ℕ} {ws w₂ : List ℕ} {found head tail : ℕ} → ((i : ℕ) → i < found → getD w₁ (b .queue + i) 0 ≡ getD w₀ (b .queue + i) 0) → Searched lim ws b w₁ w₂ n found head tail → Searched lim ws b w₀ w₂ n found head tail
   search-join front r = record {
     kept = record {
       size = r .kept .size ∙ k .size;

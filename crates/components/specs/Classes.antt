@@ -61,12 +61,12 @@ ctxOf ws b w₀ n found begun w t = record {
   front = t;
 }
 
-pub record Searched (ws : List ℕ) (b : Bases) (w₀ w : List ℕ) (n found head tail : ℕ) : Type 0 where
+pub record Searched (lim : ℕ) (ws : List ℕ) (b : Bases) (w₀ w : List ℕ) (n found head tail : ℕ) : Type 0 where
   pub kept : Kept b w₀ w
   pub after : found ≤ head
   pub ahead : head ≤ tail
   pub front : (i : ℕ) → i < found → getD w (b .queue + i) 0 ≡ getD w₀ (b .queue + i) 0
-  pub held : Gathering 65536 b (ctxOf ws b w₀ n found (between found (head - found) (drop (b .queue) w)) w tail) w tail []
+  pub held : Gathering lim b (ctxOf ws b w₀ n found (between found (head - found) (drop (b .queue) w)) w tail) w tail []
 
 -- a component on the queue, whose flags are still to be set
 pub record Component (ws : List ℕ) (b : Bases) (w : List ℕ) (n from to : ℕ) : Type 0 where

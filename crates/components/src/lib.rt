@@ -15,8 +15,8 @@ use area::Bases;
 
 // The members that are on the queue from `found` on, the root alone at first, and those that their rows lead to.
 fn follow(graph: &[u16], work: &mut [u16], b: Bases, n: usize, found: usize) -> usize
-    requires { ⌜ Accepted edition1 (now graph) × Based (now graph) (length (now work)) b × Tables (theoryOf (now graph)) b (now work) × Searched (now graph) b (now work) (now work) n found found (found + 1) ⌝ }
-    ensures { λ r. ⌜ Searched (now (graph .entry)) b (now (work .entry)) (now (work .exit)) n found r r ⌝ }
+    requires { ⌜ Accepted edition1 (now graph) × Based (now graph) (length (now work)) b × Tables (theoryOf (now graph)) b (now work) × Searched 65536 (now graph) b (now work) (now work) n found found (found + 1) ⌝ }
+    ensures { λ r. ⌜ Searched 65536 (now (graph .entry)) b (now (work .entry)) (now (work .exit)) n found r r ⌝ }
 {
     let mut head = found;
     let mut tail = found + 1;

@@ -162,11 +162,12 @@ fn find_in(graph: &[u16], work: &mut [u16], b: Bases, cyclic_only: bool) -> Cone
 
 // The same, with the bases worked out here (`area::bases_of` says why).
 fn find(graph: &[u16], work: &mut [u16], cyclic_only: bool) -> Cone
-    requires { ⌜ Accepted edition1 (now graph) × Based (now graph) (length (now work)) (basesOf (now graph)) ⌝ }
-    requires { ⌜ («cyclic_only» ≡ true → Flagged (theoryOf (now graph)) (basesOf (now graph)) (now work)) ⌝ }
-    ensures { λ r. ⌜ Held (theoryOf (now (graph .entry))) (cone (theoryOf (now (graph .entry))) (wantedBy (theoryOf (now (graph .entry))) «cyclic_only»)) (factBy (theoryOf (now (graph .entry))) «cyclic_only») (basesOf (now (graph .entry))) (now (work .exit)) r × Kept (basesOf (now (graph .entry))) (now (work .entry)) (now (work .exit)) ⌝ }
+    requires { ⌜ Accepted edition1 (now graph) × Based (now graph) (length (now work)) (basesOf (now graph) (length (now work))) ⌝ }
+    requires { ⌜ («cyclic_only» ≡ true → Flagged (theoryOf (now graph)) (basesOf (now graph) (length (now work))) (now work)) ⌝ }
+    ensures { λ r. ⌜ Held (theoryOf (now (graph .entry))) (cone (theoryOf (now (graph .entry))) (wantedBy (theoryOf (now (graph .entry))) «cyclic_only»)) (factBy (theoryOf (now (graph .entry))) «cyclic_only») (basesOf (now (graph .entry)) (length (now (work .entry)))) (now (work .exit)) r × Kept (basesOf (now (graph .entry)) (length (now (work .entry)))) (now (work .entry)) (now (work .exit)) ⌝ }
 {
-    find_in(graph, work, area::bases_of(graph), cyclic_only)
+    let words = work.len();
+    find_in(graph, work, area::bases_of(graph, words), cyclic_only)
 }
 
 // Whether a node is absorbed and in the body cone.

@@ -33,7 +33,7 @@ use Rattle.events.proofs.VertexLaws.{tables-same}
 use Rattle.cycles.specs.Held.{Counting, Looked}
 use Rattle.cycles.proofs.DegreeLaws.{degree-all}
 
-module _ (ws : List ℕ) {b : Bases} {w w′ : List ℕ} {t : ℕ} (c : Counting 65536 (theoryOf ws) b w (theoryOf ws .producers) []) (k : Looked b w w′ (b .atoms + b .nodes) t) where
+module _ {lim : ℕ} (ws : List ℕ) {b : Bases} {w w′ : List ℕ} {t : ℕ} (c : Counting lim (theoryOf ws) b w (theoryOf ws .producers) []) (k : Looked b w w′ (b .atoms + b .nodes) t) where
   pub tables-looked : Tables (theoryOf ws) b w′
   tables-looked = let l = c .shape .laid in tables-same (frame-less (b .queue) w w′ (k .before) (b .states) (omega arith)) (k .size) (c .shape .tables)
 
@@ -52,10 +52,10 @@ module _ (ws : List ℕ) {b : Bases} {w w′ : List ℕ} {t : ℕ} (c : Counting
     first = λ v h. ((λ m. (count-same v h ∙ k .first v .0 m .1, λ e. let z : _≡_ {A = ℕ} 0 1 = cc in omega arith)), λ p. k .first v .1 (h, sym (count-same v h) ∙ p .0));
   }
 
-  pub running : Running ws b (λ v. every) w′ 0 t
+  pub running : Running lim ws b (λ v. every) w′ 0 t
   unfolding upto
   running =
-      let l = c .shape .laid in let g = c .shape .long in let s = c .shape .size in let e = k .size in
+      let l = c .shape .laid in let g = c .shape .long in let s = c .shape .small in let e = k .size in
       record {
         ahead = omega arith;
         held = record {
@@ -68,7 +68,7 @@ module _ (ws : List ℕ) {b : Bases} {w w′ : List ℕ} {t : ℕ} (c : Counting
         };
       }
 
-  pub answer : {w″ : List ℕ} {n : ℕ} → Ran ws b w′ w″ 0 t n n → ltb n (b .atoms + b .nodes) ≡ hasCycle (theoryOf ws)
+  pub answer : {w″ : List ℕ} {n : ℕ} → Ran lim ws b w′ w″ 0 t n n → ltb n (b .atoms + b .nodes) ≡ hasCycle (theoryOf ws)
   unfolding vertices
   answer {w″} {n} r = go (decLt n (b .atoms + b .nodes))
     where

@@ -31,7 +31,7 @@ shape-set {b = b} {w = w} i x h s = record {
   atoms = s .atoms;
   nodes = s .nodes;
   long = rw length-set (s .long);
-  size = rw length-set (s .size);
+  small = s .small;
   few = s .few;
   tables = tables-same (take-set-le (b .states) w i x h) (length-set w i x) (s .tables);
 }

@@ -20,8 +20,8 @@ use Rattle.cycles.specs.Held.{Shape, Started}
 pub counts-part : {b : Bases} {words words′ : ℕ} → Laid b → b .end ≤ words → words′ ≡ words → (b .dependencies ≤ b .dependencies + b .atoms) × (b .dependencies + b .atoms ≤ words′)
 counts-part laid ends same = (omega arith, omega arith)
 
-module _ {ed : Edition} {ws : List ℕ} {lim words : ℕ} {b : Bases} {w₀ w₁ w₂ w₃ w₄ : List ℕ}
-    (acc : Accepted ed ws) (fits : 1 + ed .entries + ed .entries < lim) (base : Based ws (length w₀) b) (size : length w₀ ≡ words) (most : words ≤ lim)
+module _ {ed : Edition} {ws : List ℕ} {lim : ℕ} {b : Bases} {w₀ w₁ w₂ w₃ w₄ : List ℕ}
+    (acc : Accepted ed ws) (few : ed .counts + ed .counts < lim) (fits : 1 + ed .entries + ed .entries < lim) (base : Based ws (length w₀) b)
     (s₁ : Built (theoryOf ws) b AtomNodes w₀ w₁) (s₂ : Built (theoryOf ws) b Parents w₁ w₂) (s₃ : Built (theoryOf ws) b ByBody w₂ w₃) (f : Filled (b .dependencies) (b .dependencies + b .atoms) 0 w₃ w₄) where
   frame : take (b .states) w₄ ≡ take (b .states) w₃
   frame = frame-less (b .dependencies) w₃ w₄ (f .before) (b .states) (let l = base .laid in omega arith)
@@ -39,7 +39,7 @@ module _ {ed : Edition} {ws : List ℕ} {lim words : ℕ} {b : Bases} {w₀ w₁
         atoms = omega arith;
         nodes = omega arith;
         long = omega arith;
-        size = omega arith;
+        small = let u = acc .atoms-few in let k = acc .nodes-few in omega arith;
         few = λ v h. let p = preds-few (theoryOf ws) v (omega arith) in let u = acc .leaf-total in let k = acc .head-total in omega arith;
         tables = record {
           atom-nodes = kept (wider t₁ (b .states) (omega arith) (omega arith)) w₄ frame (f .size);

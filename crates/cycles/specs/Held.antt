@@ -22,7 +22,7 @@ pub record Shape (lim : ℕ) (th : Theory) (b : Bases) (w : List ℕ) : Type 0 w
   pub atoms : b .atoms ≡ th .atoms
   pub nodes : b .nodes ≡ th .nodes
   pub long : b .end ≤ length w
-  pub size : length w ≤ lim
+  pub small : b .atoms + b .nodes < lim
   pub few : (v : ℕ) → v < b .atoms + b .nodes → length (preds th everyone v) < lim
   pub tables : Tables th b w
 

@@ -10,7 +10,7 @@ use Rattle.theory.specs.Theory.{Theory}
 use Rattle.theory.specs.Edges.{vertices, preds}
 use Rattle.theory.specs.Founded.{hasCycle}
 use Rattle.theory.specs.Words.{theoryOf}
-use Rattle.theory.specs.Accepted.{edition1}
+use Rattle.theory.specs.Accepted.{Edition, areaOf}
 use Rattle.graph.specs.Answer.{Answer, refuse, refuseIf, orNext}
 use Rattle.graph.specs.Refusals.{graphAnswer, answerOf}
 use Rattle.cycles.specs.declared.Need.{Need}
@@ -27,14 +27,14 @@ outcomeOf (Refused c) = refused (answerOf c)
 outcomeOf Work = refused (refuse 11 0)
 
 -- rows 1 to 9, then 11
-abbrev pub refusal : (graph work : List ℕ) → Answer
-refusal graph work = orNext (graphAnswer edition1 graph) (refuseIf 11 (not (eqb (length work) 32768)))
+abbrev pub refusal : Edition → (graph work : List ℕ) → Answer
+refusal ed graph work = orNext (graphAnswer ed graph) (refuseIf 11 (not (eqb (length work) (areaOf ed (theoryOf graph)))))
 
-abbrev pub outcome : (graph work : List ℕ) → Outcome
-outcome graph work = cond (eqb (refusal graph work .number) 0) (loops (hasCycle (theoryOf graph))) (refused (refusal graph work))
+abbrev pub outcome : Edition → (graph work : List ℕ) → Outcome
+outcome ed graph work = cond (eqb (refusal ed graph work .number) 0) (loops (hasCycle (theoryOf graph))) (refused (refusal ed graph work))
 
-abbrev pub workAfter : (graph work : List ℕ) → List ℕ
-workAfter graph work = cond (eqb (refusal graph work .number) 0) (replicate 32768 0) work
+abbrev pub workAfter : Edition → (graph work : List ℕ) → List ℕ
+workAfter ed graph work = cond (eqb (refusal ed graph work .number) 0) (replicate (areaOf ed (theoryOf graph)) 0) work
 
 -- a closed walk over all atoms and all nodes
 abbrev pub ClosedWalk : Theory → Type 0

@@ -11,7 +11,7 @@ ghost use Rattle.theory.specs.Words.{theoryOf};
 ghost use Rattle.theory.specs.Edges.{preds};
 ghost use Rattle.theory.specs.Accepted.{Accepted, edition1};
 ghost use Rattle.theory.specs.Founded.{hasCycle};
-ghost use Rattle.area.specs.Layout.{Laid, Based};
+ghost use Rattle.area.specs.Layout.{Laid, Roomy, Based};
 ghost use Rattle.cycles.specs.Held.{Started, Counting, Looked};
 ghost use Rattle.cycles.specs.Outcome.{loops, outcomeOf, outcome, workAfter, ClosedWalk};
 use adjacency::Table;
@@ -74,7 +74,7 @@ fn count_all(graph: &[u16], work: &mut [u16], b: Bases)
 
 // The vertices that wait for nothing, put on the queue.
 fn look_all(work: &mut [u16], b: Bases) -> usize
-    requires { ⌜ Laid b × (b .end ≤ length (now work)) × (length (now work) ≤ 65536) ⌝ }
+    requires { ⌜ Laid b × (b .end ≤ length (now work)) × (b .atoms + b .nodes < 65536) ⌝ }
     ensures { λ t. ⌜ Looked b (now (work .entry)) (now (work .exit)) (b .atoms + b .nodes) t ⌝ }
 {
     let mut tail: usize = 0;
@@ -91,7 +91,7 @@ fn look_all(work: &mut [u16], b: Bases) -> usize
 
 // The tables that are read, and a count of zero for each atom.
 fn set_up(graph: &[u16], work: &mut [u16], b: Bases)
-    requires { ⌜ Accepted edition1 (now graph) × Based (now graph) (length (now work)) b × (length (now work) ≡ 32768) ⌝ }
+    requires { ⌜ Accepted edition1 (now graph) × Based (now graph) (length (now work)) b ⌝ }
     ensures { λ _. ⌜ Started 65536 (theoryOf (now (graph .entry))) b (now (work .exit)) 0 ⌝ }
 {
     adjacency::build_in(graph, work, b, Table::AtomNodes);
@@ -104,10 +104,11 @@ fn set_up(graph: &[u16], work: &mut [u16], b: Bases)
 
 // Whether a closed walk keeps some vertex from being released.
 fn cyclic(graph: &[u16], work: &mut [u16]) -> bool
-    requires { ⌜ Accepted edition1 (now graph) × (length (now work) ≡ 32768) ⌝ }
+    requires { ⌜ Accepted edition1 (now graph) × Roomy (now graph) (length (now work)) ⌝ }
     ensures { λ r. ⌜ r ≡ hasCycle (theoryOf (now (graph .entry))) ⌝ }
 {
-    let b = area::bases_of(graph);
+    let words = work.len();
+    let b = area::bases_of(graph, words);
     set_up(graph, work, b);
     count_all(graph, work, b);
     let first = look_all(work, b);
@@ -133,15 +134,15 @@ fn reply(yes: bool) -> Need
 
 // Refusals 1 to 9, then 11, then whether there is a closed walk.
 pub fn needed(graph: &[u16], work: &mut [u16]) -> Need
-    ensures { λ r. ⌜ outcomeOf r ≡ outcome (now (graph .entry)) (now (work .entry)) ⌝ }
-    ensures { λ _. ⌜ now (work .exit) ≡ workAfter (now (graph .entry)) (now (work .entry)) ⌝ }
+    ensures { λ r. ⌜ outcomeOf r ≡ outcome edition1 (now (graph .entry)) (now (work .entry)) ⌝ }
+    ensures { λ _. ⌜ now (work .exit) ≡ workAfter edition1 (now (graph .entry)) (now (work .entry)) ⌝ }
     ensures { λ r. ⌜ ((yes : _) → outcomeOf r ≡ loops yes → (yes ≡ true) ↔ ClosedWalk (theoryOf (now (graph .entry)))) ⌝ }
 {
     let checked = graph::check(graph);
     let Checked::Accepted = checked else {
         return Need::Refused(checked);
     };
-    if work.len() != 32768 {
+    if work.len() != area::length::words(graph) {
         return Need::Work;
     }
     let yes = cyclic(graph, work);

@@ -47,7 +47,7 @@ module _ {ws : List ℕ} {ed : Edition} (acc : Accepted ed ws) {b : Bases} {word
       let k = occ-mem m in
       (omega arith, mem-occ u (preds (theoryOf ws) everyone v) (omega arith))
 
-  module _ {mode : ℕ → Mode} {w : List ℕ} (head tail : ℕ) (r : Running ws b mode w head tail) where
+  module _ {lim : ℕ} {mode : ℕ → Mode} {w : List ℕ} (head tail : ℕ) (r : Running lim ws b mode w head tail) where
     list : Worklist (b .atoms + b .nodes) mode (preds (theoryOf ws) everyone) (queued b w tail) (queued b w head) [] (countAt b w)
     list = r .held .settling
 
@@ -64,7 +64,7 @@ module _ {ws : List ℕ} {ed : Edition} (acc : Accepted ed ws) {b : Bases} {word
       pub head-low : v < b .atoms + b .nodes
       head-low = list .low v found
 
-      begun : Held 65536 b (runCtx ws mode (v ∷ queued b w head) w tail) w tail (succs (theoryOf ws) v)
+      begun : Held lim b (runCtx ws mode (v ∷ queued b w head) w tail) w tail (succs (theoryOf ws) v)
       begun = record {
         laid = r .held .laid;
         long = r .held .long;
@@ -76,13 +76,13 @@ module _ {ws : List ℕ} {ed : Edition} (acc : Accepted ed ws) {b : Bases} {word
             (λ x l. let q = bound in succs-preds (theoryOf ws) (acc .well-formed) v x (omega arith)) (leads v) (λ x l m. turned v x l m);
       }
 
-      pub run-follows : Follows (Held 65536 b) w tail (succs (theoryOf ws) v)
-      run-follows = follows-all (Held 65536 b) begun
+      pub run-follows : Follows (Held lim b) w tail (succs (theoryOf ws) v)
+      run-follows = follows-all (Held lim b) begun
 
-      pub run-grows : {w′ : List ℕ} {t′ : ℕ} → Drives (Held 65536 b) (b .states) w tail (succs (theoryOf ws) v) w′ t′ [] → tail ≤ t′
-      run-grows d = drives-all (Held 65536 b) begun d .fore
+      pub run-grows : {w′ : List ℕ} {t′ : ℕ} → Drives (Held lim b) (b .states) w tail (succs (theoryOf ws) v) w′ t′ [] → tail ≤ t′
+      run-grows d = drives-all (Held lim b) begun d .fore
 
-      pub run-next : {w′ : List ℕ} {t′ : ℕ} → Drives (Held 65536 b) (b .states) w tail (succs (theoryOf ws) v) w′ t′ [] → Running ws b mode w′ (head + 1) t′
+      pub run-next : {w′ : List ℕ} {t′ : ℕ} → Drives (Held lim b) (b .states) w tail (succs (theoryOf ws) v) w′ t′ [] → Running lim ws b mode w′ (head + 1) t′
       unfolding upto
       run-next {w′} {t′} d = record {
         ahead = let f = k .fore in omega arith;
@@ -96,8 +96,8 @@ module _ {ws : List ℕ} {ed : Edition} (acc : Accepted ed ws) {b : Bases} {word
         };
       }
         where
-          k : Held 65536 b (runCtx ws mode (v ∷ queued b w head) w tail) w′ t′ []
-          k = drives-all (Held 65536 b) begun d
+          k : Held lim b (runCtx ws mode (v ∷ queued b w head) w tail) w′ t′ []
+          k = drives-all (Held lim b) begun d
 
           same : (i : ℕ) → i < tail → getD (drop (b .queue) w′) i 0 ≡ getD (drop (b .queue) w) i 0
           same i l = getD-drop (b .queue) w′ i 0 ∙ k .front i l ∙ sym (getD-drop (b .queue) w i 0)
@@ -105,5 +105,5 @@ module _ {ws : List ℕ} {ed : Edition} (acc : Accepted ed ws) {b : Bases} {word
           more : queued b w′ (head + 1) ≡ v ∷ queued b w head
           more = rw (add-one head) (ap₂ (λ (x : ℕ) (l : List ℕ). x ∷ l) (same head h ∙ at-head) (upto-same head (drop (b .queue) w′) (drop (b .queue) w) (λ i l. same i (omega arith))))
 
-  pub run-end : {mode : ℕ → Mode} {w : List ℕ} (t : ℕ) → Running ws b mode w t t → (v : ℕ) → Is (closure (b .atoms + b .nodes) mode (preds (theoryOf ws) everyone) v) → Mem v (queued b w t)
-  run-end {mode} {w} t r = worklist-end (b .atoms + b .nodes) mode (preds (theoryOf ws) everyone) (list t t r)
+  pub run-end : {lim : ℕ} {mode : ℕ → Mode} {w : List ℕ} (t : ℕ) → Running lim ws b mode w t t → (v : ℕ) → Is (closure (b .atoms + b .nodes) mode (preds (theoryOf ws) everyone) v) → Mem v (queued b w t)
+  run-end {mode = mode} {w = w} t r = worklist-end (b .atoms + b .nodes) mode (preds (theoryOf ws) everyone) (list t t r)

@@ -20,12 +20,12 @@ runCtx ws mode done w t = record {
   front = t;
 }
 
-pub record Running (ws : List ℕ) (b : Bases) (mode : ℕ → Mode) (w : List ℕ) (head tail : ℕ) : Type 0 where
+pub record Running (lim : ℕ) (ws : List ℕ) (b : Bases) (mode : ℕ → Mode) (w : List ℕ) (head tail : ℕ) : Type 0 where
   pub ahead : head ≤ tail
-  pub held : Held 65536 b (runCtx ws mode (queued b w head) w tail) w tail []
+  pub held : Held lim b (runCtx ws mode (queued b w head) w tail) w tail []
 
 -- from one state of the words to another, whatever the modes are
-pub record Ran (ws : List ℕ) (b : Bases) (w₀ w : List ℕ) (head₀ tail₀ head tail : ℕ) : Type 0 where
+pub record Ran (lim : ℕ) (ws : List ℕ) (b : Bases) (w₀ w : List ℕ) (head₀ tail₀ head tail : ℕ) : Type 0 where
   pub size : length w ≡ length w₀
   pub tables : take (b .states) w ≡ take (b .states) w₀
-  pub runs : (mode : ℕ → Mode) → Running ws b mode w₀ head₀ tail₀ → Running ws b mode w head tail
+  pub runs : (mode : ℕ → Mode) → Running lim ws b mode w₀ head₀ tail₀ → Running lim ws b mode w head tail

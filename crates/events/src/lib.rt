@@ -124,8 +124,8 @@ fn visit_vertex(graph: &[u16], work: &mut [u16], b: Bases, v: usize, tail: usize
 // Every vertex on the queue, in turn: the rows of those that are found on the way too.
 fn settle_in(graph: &[u16], work: &mut [u16], b: Bases, first: usize) -> usize
     requires { ⌜ Accepted edition1 (now graph) × Based (now graph) (length (now work)) b × Tables (theoryOf (now graph)) b (now work) ⌝ }
-    requires { ⌜ ((mode : ℕ → Mode) × Running (now graph) b mode (now work) 0 first) ⌝ }
-    ensures { λ r. ⌜ Ran (now (graph .entry)) b (now (work .entry)) (now (work .exit)) 0 first r r ⌝ }
+    requires { ⌜ ((mode : ℕ → Mode) × Running 65536 (now graph) b mode (now work) 0 first) ⌝ }
+    ensures { λ r. ⌜ Ran 65536 (now (graph .entry)) b (now (work .entry)) (now (work .exit)) 0 first r r ⌝ }
 {
     let mut head: usize = 0;
     let mut tail = first;
@@ -139,9 +139,10 @@ fn settle_in(graph: &[u16], work: &mut [u16], b: Bases, first: usize) -> usize
 
 // The same, with the bases worked out here (`area::bases_of` says why).
 pub fn settle_all(graph: &[u16], work: &mut [u16], first: usize) -> usize
-    requires { ⌜ Accepted edition1 (now graph) × Based (now graph) (length (now work)) (basesOf (now graph)) × Tables (theoryOf (now graph)) (basesOf (now graph)) (now work) ⌝ }
-    requires { ⌜ ((mode : ℕ → Mode) × Running (now graph) (basesOf (now graph)) mode (now work) 0 first) ⌝ }
-    ensures { λ r. ⌜ Ran (now (graph .entry)) (basesOf (now (graph .entry))) (now (work .entry)) (now (work .exit)) 0 first r r ⌝ }
+    requires { ⌜ Accepted edition1 (now graph) × Based (now graph) (length (now work)) (basesOf (now graph) (length (now work))) × Tables (theoryOf (now graph)) (basesOf (now graph) (length (now work))) (now work) ⌝ }
+    requires { ⌜ ((mode : ℕ → Mode) × Running 65536 (now graph) (basesOf (now graph) (length (now work))) mode (now work) 0 first) ⌝ }
+    ensures { λ r. ⌜ Ran 65536 (now (graph .entry)) (basesOf (now (graph .entry)) (length (now (work .entry)))) (now (work .entry)) (now (work .exit)) 0 first r r ⌝ }
 {
-    settle_in(graph, work, area::bases_of(graph), first)
+    let words = work.len();
+    settle_in(graph, work, area::bases_of(graph, words), first)
 }

@@ -11,7 +11,7 @@ use lib.ListN.{length, getD, set, length-set}
 use lib.Seq.{getD-set-same, getD-set-other, set-getD, set-set}
 use Rattle.theory.specs.Words.{nodeAt, producerAt, valueOf, nextOf, Ending, theoryOf}
 use Rattle.theory.specs.Edges.{vertices}
-use Rattle.theory.specs.Accepted.{Edition, edition1, Accepted}
+use Rattle.theory.specs.Accepted.{Edition, Accepted}
 use Rattle.theory.proofs.SetLaws.{clash, eq-is, is-eq}
 use Rattle.graph.specs.Layout.{ProducerIn}
 use Rattle.area.specs.declared.Bases.{Bases}
@@ -115,8 +115,8 @@ module _ {ws : List ℕ} {b : Bases} {w w₁ : List ℕ} {v top done : ℕ} (o :
     done-room = step.done-room (there f .walking) (o .some) (there f .top-is) (f .looked)
 
     -- what `finish` asks
-    pub done-finishing : Accepted edition1 ws → (b .«body_nodes» + done < length w₁) × (v < 65536) × (0 < top)
-    done-finishing acc =
+    pub done-finishing : {lim : ℕ} {ed : Edition} → Accepted ed ws → ed .counts + ed .counts < lim → (b .«body_nodes» + done < length w₁) × (v < lim) × (0 < top)
+    done-finishing acc fits =
         (order-place (found-ready f .based) done done-room, (let l = top-under o in let n = vertices-few (o .walking .ready .based) acc in omega arith), o .some)
 
     pub done-step : Stepped ws b w (set w₁ (b .«body_nodes» + done) v) (top - 1) (done + 1) done

@@ -17,15 +17,15 @@ ghost use Rattle.finishing.specs.Walking.{Walking, OnTop, Found, Meeting
 use area::Bases;
 
 // What a look finds: a vertex that is still to be met, or nothing more.
-enum Entry {
+pub enum Entry {
     Vertex(usize),
     Done,
 }
 
 // How many vertices are on the stack, and how many are finished.
-struct Tops {
-    top: usize,
-    done: usize,
+pub struct Tops {
+    pub top: usize,
+    pub done: usize,
 }
 
 // The cursor of a vertex before any of its entries is looked at.

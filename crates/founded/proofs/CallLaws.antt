@@ -8,7 +8,7 @@ use borrow.Author.Tests.{eq-eqb, ne-eqb, eqb-true, not-false}
 use lib.Dec.{eqb}
 use lib.ListN.{length, getD}
 use Rattle.theory.specs.Words.{theoryOf, bitAt}
-use Rattle.theory.specs.Accepted.{edition1}
+use Rattle.theory.specs.Accepted.{Edition, areaOf}
 use Rattle.theory.specs.Founded.{cyclic, missing}
 use Rattle.theory.proofs.SetLaws.{clash, is-false, or-right}
 use Rattle.theory.proofs.UnfoundedLaws.{missing-exactly}
@@ -21,17 +21,17 @@ use Rattle.founded.specs.Answers.{preparedOf, completedOf, badMask, badL
 use Rattle.founded.proofs.OutcomeLaws.{Answered}
 use Rattle.founded.proofs.OutputLaws.{missing-list}
 
-pub prepares : {ws output work output′ work′ : List ℕ} {r : Prepared}
-    → Answered edition1 ws (badMask (getD ws 1 0) (length output)) (badWork (length work)) (cyclic (theoryOf ws)) output work output′ work′ (preparedOf r)
-    → (preparedOf r .number ≡ 0 → r ≡ Done) → Prepares ws output work output′ work′ r
+pub prepares : {ed : Edition} {ws output work output′ work′ : List ℕ} {r : Prepared}
+    → Answered ed ws (badMask (getD ws 1 0) (length output)) (badWork ed ws (length work)) (cyclic (theoryOf ws)) output work output′ work′ (preparedOf r)
+    → (preparedOf r .number ≡ 0 → r ≡ Done) → Prepares ed ws output work output′ work′ r
 unfolding prepareAnswer
 prepares h d = record { answer = h .answer; done = d; absorbed = h .absorbed; output-after = h .output-after; work-after = h .work-after }
 
-pub completes : {ws never atomNever output work output′ work′ : List ℕ} {r : Completed}
-    → Answered edition1 ws (badLengths ws (length never) (length atomNever) (length output)) (badWork (length work)) (missing (theoryOf ws) (bitAt never) (bitAt atomNever)) output work output′ work′ (completedOf r)
-    → (completedOf r .number ≡ 0 → r ≡ AllDone) → Completes ws never atomNever output work output′ work′ r
+pub completes : {ed : Edition} {ws never atomNever output work output′ work′ : List ℕ} {r : Completed}
+    → Answered ed ws (badLengths ws (length never) (length atomNever) (length output)) (badWork ed ws (length work)) (missing (theoryOf ws) (bitAt never) (bitAt atomNever)) output work output′ work′ (completedOf r)
+    → (completedOf r .number ≡ 0 → r ≡ AllDone) → Completes ed ws never atomNever output work output′ work′ r
 unfolding completeAnswer
-completes {ws} {never} {atomNever} {r = r} h d = record {
+completes {ws = ws} {never = never} {atomNever = atomNever} {r = r} h d = record {
   answer = h .answer;
   done = d;
   absorbed = h .absorbed;
@@ -56,8 +56,8 @@ pub output-fits : (ws : List ℕ) (n a o : ℕ) → badLengths ws n a o ≡ fals
 unfolding badLengths
 output-fits ws n a o e = is-false _ (λ t. clash (or-right (badMask (getD ws 2 0) n) _ (or-right (badMask (getD ws 1 0) a) _ t)) e)
 
-pub work-fits : (w : ℕ) → w ≡ 32768 → badWork w ≡ false
-work-fits w e = rw (eq-eqb w 32768 e)
+pub work-fits : (ed : Edition) (ws : List ℕ) (w : ℕ) → w ≡ areaOf ed (theoryOf ws) → badWork ed ws w ≡ false
+work-fits ed ws w e = rw (eq-eqb w (areaOf ed (theoryOf ws)) e)
 
-pub work-bad : (w : ℕ) → w ≢ 32768 → badWork w ≡ true
-work-bad w e = rw (ne-eqb w 32768 e)
+pub work-bad : (ed : Edition) (ws : List ℕ) {w k : ℕ} → w ≢ k → k ≡ areaOf ed (theoryOf ws) → badWork ed ws w ≡ true
+work-bad ed ws {w} n e = rw (← e, ne-eqb w _ n)

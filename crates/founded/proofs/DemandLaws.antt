@@ -6,6 +6,7 @@ use Prim.Native.Nat.{ℕ}
 use borrow.Author.Tests.{eq-eqb}
 use Rattle.theory.specs.Sets.{Set, _⊆_}
 use Rattle.theory.specs.Words.{theoryOf, bitAt}
+use Rattle.theory.specs.Accepted.{Edition}
 use Rattle.theory.specs.Founded.{missing}
 use Rattle.theory.specs.Unfounded.{Unfounded}
 use Rattle.theory.proofs.UnfoundedLaws.{missing-unfounded, unfounded-missing}
@@ -13,7 +14,7 @@ use Rattle.founded.specs.declared.Completed.{Completed}
 use Rattle.founded.specs.Answers.{completedOf, Completes}
 use Rattle.founded.proofs.OutputLaws.{missing-list}
 
-module _ {ws never atomNever output work output′ work′ : List ℕ} {r : Completed} (h : Completes ws never atomNever output work output′ work′ r) (success : completedOf r .number ≡ 0) where
+module _ {ed : Edition} {ws never atomNever output work output′ work′ : List ℕ} {r : Completed} (h : Completes ed ws never atomNever output work output′ work′ r) (success : completedOf r .number ≡ 0) where
   pub list-missing : bitAt output′ ≡ missing (theoryOf ws) (bitAt never) (bitAt atomNever)
   list-missing = rw (h .output-after, eq-eqb (completedOf r .number) 0 success) (missing-list ws (bitAt never) (bitAt atomNever))
 

@@ -2,3 +2,4 @@ pub mod OutputLaws
 pub mod OutcomeLaws
 pub mod CallLaws
 pub mod DemandLaws
+pub mod PlaceLaws

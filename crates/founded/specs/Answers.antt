@@ -10,7 +10,7 @@ use lib.ListN.{length, getD, replicate}
 use Rattle.theory.specs.Sets.{Set, Is, Mem, filled}
 use Rattle.theory.specs.Theory.{Theory}
 use Rattle.theory.specs.Words.{theoryOf, bitAt}
-use Rattle.theory.specs.Accepted.{Edition, edition1}
+use Rattle.theory.specs.Accepted.{Edition, areaOf}
 use Rattle.theory.specs.Founded.{cyclic, missing}
 use Rattle.theory.specs.Unfounded.{Unfounded}
 use Rattle.theory.specs.Cases.{absorbedIn}
@@ -45,8 +45,8 @@ unfoldable pub badLengths : List ℕ → (n a o : ℕ) → Bool
 badLengths ws n a o = badMask (getD ws 2 0) n || (badMask (getD ws 1 0) a || badMask (getD ws 1 0) o)
 
 -- 11: another length of the work area
-abbrev pub badWork : ℕ → Bool
-badWork w = not (eqb w 32768)
+abbrev pub badWork : Edition → List ℕ → ℕ → Bool
+badWork ed ws w = not (eqb w (areaOf ed (theoryOf ws)))
 
 -- 12: the body cone holds an absorbed node. The place p is free here; `absorbed` of the two records says what holds of it.
 unfoldable pub absorbedRow : Theory → ℕ → Answer
@@ -57,11 +57,11 @@ abbrev pub callAnswer : Edition → List ℕ → (lengths area : Bool) (p : ℕ)
 callAnswer ed ws lengths area p = firstRefusal (graphRows ed ws ++ (refuseIf 10 lengths ∷ refuseIf 11 area ∷ absorbedRow (theoryOf ws) p ∷ []))
 
 -- n, a, o, w: the lengths of node mask, atom mask, output and work area
-unfoldable pub prepareAnswer : List ℕ → (o w p : ℕ) → Answer
-prepareAnswer ws o w p = callAnswer edition1 ws (badMask (getD ws 1 0) o) (badWork w) p
+unfoldable pub prepareAnswer : Edition → List ℕ → (o w p : ℕ) → Answer
+prepareAnswer ed ws o w p = callAnswer ed ws (badMask (getD ws 1 0) o) (badWork ed ws w) p
 
-unfoldable pub completeAnswer : List ℕ → (n a o w p : ℕ) → Answer
-completeAnswer ws n a o w p = callAnswer edition1 ws (badLengths ws n a o) (badWork w) p
+unfoldable pub completeAnswer : Edition → List ℕ → (n a o w p : ℕ) → Answer
+completeAnswer ed ws n a o w p = callAnswer ed ws (badLengths ws n a o) (badWork ed ws w) p
 
 -- the output and the work area after an answer of that number: success writes the set, and success and 12 clear the work area
 abbrev pub outputLeft : (number atoms : ℕ) → Set → List ℕ → List ℕ
@@ -71,16 +71,16 @@ abbrev pub workLeft : (number : ℕ) → List ℕ → List ℕ
 workLeft number work = cond (eqb number 0 || eqb number 12) (replicate (length work) 0) work
 
 -- preparation: the output lists the cyclic atoms
-pub record Prepares (graph output work output′ work′ : List ℕ) (r : Prepared) : Type 0 where
-  pub answer : preparedOf r ≡ prepareAnswer graph (length output) (length work) (preparedOf r .place)
+pub record Prepares (ed : Edition) (graph output work output′ work′ : List ℕ) (r : Prepared) : Type 0 where
+  pub answer : preparedOf r ≡ prepareAnswer ed graph (length output) (length work) (preparedOf r .place)
   pub done : preparedOf r .number ≡ 0 → r ≡ Done
   pub absorbed : preparedOf r .number ≡ 12 → Mem (preparedOf r .place) (absorbedIn (theoryOf graph))
   pub output-after : output′ ≡ outputLeft (preparedOf r .number) (getD graph 1 0) (cyclic (theoryOf graph)) output
   pub work-after : work′ ≡ workLeft (preparedOf r .number) work
 
 -- the pass: the output lists the missing atoms
-pub record Completes (graph never atomNever output work output′ work′ : List ℕ) (r : Completed) : Type 0 where
-  pub answer : completedOf r ≡ completeAnswer graph (length never) (length atomNever) (length output) (length work) (completedOf r .place)
+pub record Completes (ed : Edition) (graph never atomNever output work output′ work′ : List ℕ) (r : Completed) : Type 0 where
+  pub answer : completedOf r ≡ completeAnswer ed graph (length never) (length atomNever) (length output) (length work) (completedOf r .place)
   pub done : completedOf r .number ≡ 0 → r ≡ AllDone
   pub absorbed : completedOf r .number ≡ 12 → Mem (completedOf r .place) (absorbedIn (theoryOf graph))
   pub output-after : output′ ≡ outputLeft (completedOf r .number) (getD graph 1 0) (missing (theoryOf graph) (bitAt never) (bitAt atomNever)) output

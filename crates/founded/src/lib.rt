@@ -4,7 +4,8 @@ ghost use mathlib.Core.Bool.{false};
 ghost use Prim.Native.Nat.{_+_, _≤_};
 ghost use lib.Dec.{eqb};
 ghost use lib.ListN.{length, getD, replicate};
-ghost use Rattle.theory.specs.Accepted.{edition1};
+ghost use Rattle.theory.specs.Words.{theoryOf};
+ghost use Rattle.theory.specs.Accepted.{edition1, areaOf};
 ghost use Rattle.mask.specs.Mask.{wordsOf, pack};
 ghost use Rattle.graph.specs.Answer.{accept};
 ghost use Rattle.graph.specs.Refusals.{graphAnswer};
@@ -18,7 +19,7 @@ pub enum Prepared {
     Refused(Checked),
     Output,
     Work,
-    Absorbed(u16),
+    Absorbed(usize),
 }
 
 pub enum Completed {
@@ -26,7 +27,7 @@ pub enum Completed {
     Refused(Checked),
     Lengths,
     Work,
-    Absorbed(u16),
+    Absorbed(usize),
 }
 
 // Whether a mask, or an output, has another length than one over so many numbers.
@@ -49,10 +50,11 @@ fn hand_out(words: &mut [u16], from: usize, atoms: usize, output: &mut [u64])
 
 // Preparation after refusals 1 to 11.
 fn prepare_accepted(graph: &[u16], output: &mut [u64], work: &mut [u16]) -> Prepared
-    requires { ⌜ (graphAnswer edition1 (now graph) ≡ accept) × (badMask (getD (now graph) 1 0) (length (now output)) ≡ false) × (length (now work) ≡ 32768) ⌝ }
-    ensures { λ r. ⌜ Prepares (now (graph .entry)) (now (output .entry)) (now (work .entry)) (now (output .exit)) (now (work .exit)) r ⌝ }
+    requires { ⌜ (graphAnswer edition1 (now graph) ≡ accept) × (badMask (getD (now graph) 1 0) (length (now output)) ≡ false) × (length (now work) ≡ areaOf edition1 (theoryOf (now graph))) ⌝ }
+    ensures { λ r. ⌜ Prepares edition1 (now (graph .entry)) (now (output .entry)) (now (work .entry)) (now (output .exit)) (now (work .exit)) r ⌝ }
 {
-    let b = area::bases_of(graph);
+    let words = work.len();
+    let b = area::bases_of(graph, words);
     let marks = preparation::cyclic_atoms(graph, work, b);
     match marks {
         Marks::Done => {
@@ -68,7 +70,7 @@ fn prepare_accepted(graph: &[u16], output: &mut [u64], work: &mut [u16]) -> Prep
 
 // Preparation: the cyclic atoms.
 pub fn prepare(graph: &[u16], output: &mut [u64], work: &mut [u16]) -> Prepared
-    ensures { λ r. ⌜ Prepares (now (graph .entry)) (now (output .entry)) (now (work .entry)) (now (output .exit)) (now (work .exit)) r ⌝ }
+    ensures { λ r. ⌜ Prepares edition1 (now (graph .entry)) (now (output .entry)) (now (work .entry)) (now (output .exit)) (now (work .exit)) r ⌝ }
 {
     let checked = graph::check(graph);
     let Checked::Accepted = checked else {
@@ -77,7 +79,7 @@ pub fn prepare(graph: &[u16], output: &mut [u64], work: &mut [u16]) -> Prepared
     if bad_mask(graph::atoms(graph), output.len()) {
         return Prepared::Output;
     }
-    if work.len() != 32768 {
+    if work.len() != area::length::words(graph) {
         return Prepared::Work;
     }
     prepare_accepted(graph, output, work)
@@ -106,10 +108,11 @@ fn complete_accepted(
     output: &mut [u64],
     work: &mut [u16],
 ) -> Completed
-    requires { ⌜ (graphAnswer edition1 (now graph) ≡ accept) × (badLengths (now graph) (length (now never)) (length (now «atom_never»)) (length (now output)) ≡ false) × (length (now work) ≡ 32768) ⌝ }
-    ensures { λ r. ⌜ Completes (now (graph .entry)) (now (never .entry)) (now («atom_never» .entry)) (now (output .entry)) (now (work .entry)) (now (output .exit)) (now (work .exit)) r ⌝ }
+    requires { ⌜ (graphAnswer edition1 (now graph) ≡ accept) × (badLengths (now graph) (length (now never)) (length (now «atom_never»)) (length (now output)) ≡ false) × (length (now work) ≡ areaOf edition1 (theoryOf (now graph))) ⌝ }
+    ensures { λ r. ⌜ Completes edition1 (now (graph .entry)) (now (never .entry)) (now («atom_never» .entry)) (now (output .entry)) (now (work .entry)) (now (output .exit)) (now (work .exit)) r ⌝ }
 {
-    let b = area::bases_of(graph);
+    let words = work.len();
+    let b = area::bases_of(graph, words);
     let marks = preparation::missing(graph, never, atom_never, work, b);
     match marks {
         Marks::Done => {
@@ -131,7 +134,7 @@ pub fn complete(
     output: &mut [u64],
     work: &mut [u16],
 ) -> Completed
-    ensures { λ r. ⌜ Completes (now (graph .entry)) (now (never .entry)) (now («atom_never» .entry)) (now (output .entry)) (now (work .entry)) (now (output .exit)) (now (work .exit)) r ⌝ }
+    ensures { λ r. ⌜ Completes edition1 (now (graph .entry)) (now (never .entry)) (now («atom_never» .entry)) (now (output .entry)) (now (work .entry)) (now (output .exit)) (now (work .exit)) r ⌝ }
 {
     let checked = graph::check(graph);
     let Checked::Accepted = checked else {
@@ -140,7 +143,7 @@ pub fn complete(
     if bad_lengths(graph, never.len(), atom_never.len(), output.len()) {
         return Completed::Lengths;
     }
-    if work.len() != 32768 {
+    if work.len() != area::length::words(graph) {
         return Completed::Work;
     }
     complete_accepted(graph, never, atom_never, output, work)

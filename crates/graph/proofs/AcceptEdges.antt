@@ -21,7 +21,7 @@ pair k m body first = 1 ∷ 0 ∷ 2 ∷ 1 ∷ 1 ∷ k ∷ 0 ∷ 0 ∷ m ∷ 0 �
 
 -- an edition that has no room for entries
 abbrev bare : Edition
-bare = record { number = 1; counts = 2; links = 1; entries = 0 }
+bare = record { number = 1; counts = 2; links = 1; entries = 0; area = λ size entries. 0 }
 
 pub edges : (graphAnswer edition1 (graph 0 0) ≡ accept) × (graphAnswer edition1 (graph 1 0) ≡ refuse 7 1) × (graphAnswer edition1 (graph 0 1) ≡ refuse 6 1)
     × (graphAnswer edition1 (pair 8 8 0 0) ≡ refuse 4 0) × (graphAnswer edition1 (pair 0 8 3 0) ≡ refuse 4 1) × (graphAnswer bare (pair 0 0 0 1) ≡ refuse 8 0)

@@ -6,3 +6,4 @@ pub mod FollowLaws
 pub mod RowLaws
 pub mod AcceptedLaws
 pub mod ReaderLaws
+pub mod PlaceLaws

@@ -1,5 +1,6 @@
 // The graph as lent words (document 01, "The graph as lent words"): the kind table, the header, the records, the reader of chains, and the
 // graph check, whose rows are in rows.rt. Words are read by `at` alone, so that no other function knows how wide one is.
+mod edition;
 mod rows;
 
 ghost use mathlib.Core.Path.{_≡_};
@@ -244,11 +245,11 @@ pub enum Checked {
     Edition,
     Counts,
     Size,
-    Node(u16),
-    Producer(u16),
-    Link(u16),
-    Leaf(u16),
-    Head(u16),
+    Node(u32),
+    Producer(u32),
+    Link(u32),
+    Leaf(u32),
+    Head(u32),
     Entries,
 }
 

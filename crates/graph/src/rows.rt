@@ -13,6 +13,10 @@ use crate::Walk;
 use crate::at;
 use crate::atoms;
 use crate::body;
+use crate::edition::COUNTS;
+use crate::edition::ENTRIES;
+use crate::edition::LINKS;
+use crate::edition::NUMBER;
 use crate::first_head;
 use crate::first_leaf;
 use crate::kind;
@@ -26,15 +30,6 @@ use crate::takes_links;
 use crate::takes_operand;
 use crate::value;
 
-// Edition 1: its number, and the limits of refusals 2 and 9.
-const EDITION: usize = 1;
-
-const COUNTS: usize = 1024;
-
-const LINKS: usize = 4096;
-
-const ENTRIES: usize = 4096;
-
 // Row 1.
 pub fn bad_edition(graph: &[u16]) -> bool
     ensures { λ r. ⌜ r ≡ badEdition edition1 (now (graph .entry)) ⌝ }
@@ -42,7 +37,7 @@ pub fn bad_edition(graph: &[u16]) -> bool
     if graph.len() < 5 {
         return true;
     }
-    at(graph, 0) != EDITION
+    at(graph, 0) != NUMBER
 }
 
 // Row 2.
@@ -247,7 +242,7 @@ fn check_heads(graph: &[u16], leaves: usize) -> Checked
     ensures { λ r. ⌜ answerOf r ≡ firstRefusal (drop 7 (graphRows edition1 (now (graph .entry)))) ⌝ }
 {
     match walk_heads(graph) {
-        Walk::Bad(p) => Checked::Head(p as u16),
+        Walk::Bad(p) => Checked::Head(p as u32),
         Walk::Total(heads) => {
             if ENTRIES < leaves {
                 return Checked::Entries;
@@ -267,7 +262,7 @@ fn check_leaves(graph: &[u16]) -> Checked
     ensures { λ r. ⌜ answerOf r ≡ firstRefusal (drop 6 (graphRows edition1 (now (graph .entry)))) ⌝ }
 {
     match walk_leaves(graph) {
-        Walk::Bad(n) => Checked::Leaf(n as u16),
+        Walk::Bad(n) => Checked::Leaf(n as u32),
         Walk::Total(leaves) => check_heads(graph, leaves),
     }
 }
@@ -279,15 +274,15 @@ pub fn check_records(graph: &[u16]) -> Checked
 {
     let n = bad_node(graph);
     if n < nodes(graph) {
-        return Checked::Node(n as u16);
+        return Checked::Node(n as u32);
     }
     let p = bad_producer(graph);
     if p < producers(graph) {
-        return Checked::Producer(p as u16);
+        return Checked::Producer(p as u32);
     }
     let l = bad_link(graph);
     if l <= links(graph) {
-        return Checked::Link(l as u16);
+        return Checked::Link(l as u32);
     }
     check_leaves(graph)
 }

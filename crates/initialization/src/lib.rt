@@ -21,7 +21,7 @@ ghost use Rattle.initialization.specs.Start.{initialOf, initialAt, Fille
 use area::Bases;
 
 // A node's start state.
-enum Initial {
+pub enum Initial {
     Inactive,
     Awaiting(usize),
     True,

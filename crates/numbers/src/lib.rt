@@ -24,7 +24,7 @@ pub fn checked_number(c: Checked) -> usize
 }
 
 pub fn checked_place(c: Checked) -> usize
-    ensures { λ r. ⌜ (r ≡ answerOf c .place) × (r < 65536) ⌝ }
+    ensures { λ r. ⌜ r ≡ answerOf c .place ⌝ }
 {
     match c {
         Checked::Node(n) => n as usize,
@@ -53,13 +53,13 @@ pub fn completed_number(c: Completed) -> usize
 }
 
 pub fn completed_place(c: Completed) -> usize
-    ensures { λ r. ⌜ (r ≡ completedOf c .place) × (r < 65536) ⌝ }
+    ensures { λ r. ⌜ r ≡ completedOf c .place ⌝ }
 {
     match c {
         Completed::Done => 0,
         Completed::Refused(checked) => checked_place(checked),
         Completed::Lengths => 0,
         Completed::Work => 0,
-        Completed::Absorbed(n) => n as usize,
+        Completed::Absorbed(n) => n,
     }
 }

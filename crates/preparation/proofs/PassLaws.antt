@@ -100,7 +100,7 @@ module _ {ws : List ℕ} {ed : Edition} (acc : Accepted ed ws) {b : Bases} {w : 
       unfolding vertices
       bound = let q = counts in omega arith
 
-      pub running₂ : b .atoms + b .nodes < 65536 → Running ws b (passMode (theoryOf ws) (cyclicCone (theoryOf ws)) never atomNever) w₂ 0 t
+      pub running₂ : {lim : ℕ} → b .atoms + b .nodes < lim → Running lim ws b (passMode (theoryOf ws) (cyclicCone (theoryOf ws)) never atomNever) w₂ 0 t
       unfolding upto
       running₂ small = record {
         ahead = omega arith;
@@ -116,7 +116,7 @@ module _ {ws : List ℕ} {ed : Edition} (acc : Accepted ed ws) {b : Bases} {w : 
 
       -- ---- the end
 
-      module _ {w₃ : List ℕ} (u : ℕ) (r : Running ws b (passMode (theoryOf ws) (cyclicCone (theoryOf ws)) never atomNever) w₃ u u) where
+      module _ {lim : ℕ} {w₃ : List ℕ} (u : ℕ) (r : Running lim ws b (passMode (theoryOf ws) (cyclicCone (theoryOf ws)) never atomNever) w₃ u u) where
         list : Worklist (b .atoms + b .nodes) (passMode (theoryOf ws) (cyclicCone (theoryOf ws)) never atomNever) (preds (theoryOf ws) everyone) (queued b w₃ u) (queued b w₃ u) [] (countAt b w₃)
         list = r .held .settling
 
@@ -168,5 +168,5 @@ module _ {ws : List ℕ} {ed : Edition} (acc : Accepted ed ws) {b : Bases} {w : 
                   waits (mode true e) (λ y. clash (queue-founded .0 y) f)
                   ∙ ap (λ (x : Bool). cond x 1 0) (sym (missing-parts (theoryOf ws) never atomNever a .1 (and-left (cyclic (theoryOf ws) a) _ e, not-true (atomNever a) (and-right (cyclic (theoryOf ws) a) _ e), f)))
 
-      pub passing₃ : {w₃ : List ℕ} {u : ℕ} → b .atoms + b .nodes < 65536 → Ran ws b w₂ w₃ 0 t u u → Passing ws never atomNever b w w₃
-      passing₃ {w₃} {u} small r = record { size = r .size ∙ size₂; flags = λ a l. missing-count u (r .runs (passMode (theoryOf ws) (cyclicCone (theoryOf ws)) never atomNever) (running₂ small)) a l }
+      pub passing₃ : {lim : ℕ} {w₃ : List ℕ} {u : ℕ} → b .atoms + b .nodes < lim → Ran lim ws b w₂ w₃ 0 t u u → Passing ws never atomNever b w w₃
+      passing₃ {w₃ = w₃} {u = u} small r = record { size = r .size ∙ size₂; flags = λ a l. missing-count u (r .runs (passMode (theoryOf ws) (cyclicCone (theoryOf ws)) never atomNever) (running₂ small)) a l }

@@ -81,3 +81,7 @@ module _ (ws : List ℕ) (b : Bases) (w₀ : List ℕ) where
   pub listed-done : (never atomNever : Set) {w₂ : List ℕ} (w : List ℕ) → length w₂ ≡ length w₀ → absorbedIn (theoryOf ws) ≡ [] → Passing ws never atomNever b w₂ w → Listed ws never atomNever b w₀ w Done
   unfolding Listed
   listed-done never atomNever w s e p = record { size = p .size ∙ s; none = e; flags = p .flags }
+
+pub absorbed-low : (th : Theory) (n : ℕ) → Mem n (absorbedIn th) → n < th .nodes
+unfolding absorbedIn
+absorbed-low th n m = members-mem (th .nodes) _ n .0 m .0

@@ -11,7 +11,7 @@ use cones::Coned;
 
 pub enum Marks {
     Done,
-    Absorbed(u16),
+    Absorbed(usize),
 }
 
 // The four row tables.
@@ -43,7 +43,7 @@ fn mark_in(graph: &[u16], work: &mut [u16], b: Bases) -> Marks
 {
     build_rows(graph, work, b);
     match cones::body_cone(graph, work, b) {
-        Coned::Absorbed(n) => Marks::Absorbed(n as u16),
+        Coned::Absorbed(n) => Marks::Absorbed(n),
         Coned::Done(_) => {
             walk(graph, work, b);
             Marks::Done
@@ -53,10 +53,11 @@ fn mark_in(graph: &[u16], work: &mut [u16], b: Bases) -> Marks
 
 // The same, with the bases worked out here (`area::bases_of` says why).
 fn mark(graph: &[u16], work: &mut [u16]) -> Marks
-    requires { ⌜ Accepted edition1 (now graph) × Based (now graph) (length (now work)) (basesOf (now graph)) ⌝ }
-    ensures { λ r. ⌜ Staged (now (graph .entry)) (basesOf (now (graph .entry))) (now (work .entry)) (now (work .exit)) r ⌝ }
+    requires { ⌜ Accepted edition1 (now graph) × Based (now graph) (length (now work)) (basesOf (now graph) (length (now work))) ⌝ }
+    ensures { λ r. ⌜ Staged (now (graph .entry)) (basesOf (now (graph .entry)) (length (now (work .entry)))) (now (work .entry)) (now (work .exit)) r ⌝ }
 {
-    mark_in(graph, work, area::bases_of(graph))
+    let words = work.len();
+    mark_in(graph, work, area::bases_of(graph, words))
 }
 
 // The cyclic atoms, flagged.

@@ -38,10 +38,10 @@ abbrev pub replyOf : Outcome → Bool
 replyOf (loops b) = b
 replyOf (refused a) = false
 
-pub loops-reply : (graph work : List ℕ) {r said : Need} → graphAnswer edition1 graph ≡ accept → length work ≡ 32768 → outcomeOf r ≡ outcome graph work → r ≡ said
+pub loops-reply : (graph work : List ℕ) {r said : Need} → graphAnswer edition1 graph ≡ accept → length work ≡ 32768 → outcomeOf r ≡ outcome edition1 graph work → r ≡ said
     → replyOf (outcomeOf said) ≡ hasCycle (theoryOf graph)
 loops-reply graph work e h tests told =
-    let accepted-graph : outcome graph work ≡ loops (hasCycle (theoryOf graph)) = rw (e, eq-eqb (length work) 32768 h) in
+    let accepted-graph : outcome edition1 graph work ≡ loops (hasCycle (theoryOf graph)) = rw (e, eq-eqb (length work) 32768 h) in
     ap (λ (x : Need). replyOf (outcomeOf x)) (sym told) ∙ ap replyOf (tests ∙ accepted-graph)
 
 -- ---- the pass
@@ -67,7 +67,7 @@ absorbed-last th p = go (filled (absorbedIn th))
 
 -- nothing but row 12 is left for the pass to refuse
 pub pass-row : {graph never atomNever out output work output′ work′ : List ℕ} {r : Completed} → Ready graph never atomNever out
-    → length output ≡ wordsOf (getD graph 1 0) → length work ≡ 32768 → Completes graph never atomNever output work output′ work′ r
+    → length output ≡ wordsOf (getD graph 1 0) → length work ≡ 32768 → Completes edition1 graph never atomNever output work output′ work′ r
     → absorbedRow (theoryOf graph) (completedOf r .place) ≡ completedOf r
 unfolding completeAnswer graphAnswer badLengths firstRefusal
 pass-row {graph = graph} {never = never} {atomNever = atomNever} {output = output} {work = work} {r = r} ready ho hw done =

@@ -9,15 +9,22 @@ use Rattle.theory.specs.Sets.{sumBelow}
 use Rattle.theory.specs.Theory.{Theory, WellFormed, joins}
 use Rattle.theory.specs.Words.{nodeAt, producerAt, Ending, theoryOf}
 
--- an edition of the layout: its number, and its limits of atoms, nodes and producers, of links, and of leaf entries and head entries
+-- an edition of the layout: its number; its limits of atoms, nodes and producers, of links, and of leaf entries and head entries; how many words its work
+-- area has for a graph of so many atoms, nodes and producers together, and so many leaf and head entries together
 pub record Edition : Type 0 where
   pub number : ℕ
   pub counts : ℕ
   pub links : ℕ
   pub entries : ℕ
+  pub area : (size entries : ℕ) → ℕ
 
+-- in words of 16 bits
 abbrev pub edition1 : Edition
-edition1 = record { number = 1; counts = 1024; links = 4096; entries = 4096 }
+edition1 = record { number = 1; counts = 1024; links = 4096; entries = 4096; area = λ size entries. 32768 }
+
+-- in words of 32 bits
+abbrev pub edition2 : Edition
+edition2 = record { number = 2; counts = 262144; links = 1048576; entries = 1048576; area = λ size entries. 16 * (size + 1) + 4 * entries }
 
 -- how many words a graph has
 abbrev pub sizeOf : List ℕ → ℕ
@@ -29,6 +36,10 @@ leafEntries th = sumBelow (th .nodes) (λ n. length (th .leaves n))
 
 abbrev pub headEntries : Theory → ℕ
 headEntries th = sumBelow (th .producers) (λ p. length (th .heads p))
+
+-- how many words the work area has
+abbrev pub areaOf : Edition → Theory → ℕ
+areaOf ed th = ed .area (th .atoms + th .nodes + th .producers) (leafEntries th + headEntries th)
 
 pub record Accepted (ed : Edition) (ws : List ℕ) : Type 0 where
   pub size : length ws ≡ sizeOf ws

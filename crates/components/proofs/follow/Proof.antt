@@ -12,7 +12,7 @@ use Rattle.components.proofs.collecting.collect_vertex.Reads as collect
 use Rattle.graph.proofs.at.Reads as at-reads
 
 abbrev Inv-loop : tie.InvT-loop
-Inv-loop graph work₀ b n found head₀ tail₀ work head tail = Searched graph b work₀ work n found head tail
+Inv-loop graph work₀ b n found head₀ tail₀ work head tail = Searched 65536 graph b work₀ work n found head tail
 
 abbrev μ-loop : tie.MeasureT-loop
 μ-loop graph work₀ b n found head₀ tail₀ work head tail = b .atoms + b .nodes - head

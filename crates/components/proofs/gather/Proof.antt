@@ -75,7 +75,7 @@ add-put c =
     let p3 = p2 .before .before .before .before .before in
     let c-pre = p3 .pre in
     let c-args = p3 .args in
-    let l = c-pre .1 .laid in let q = c-pre .1 .ends in let r = root-room (c-pre .0) (c-pre .1) (c-args .n) (c-args .found) (c-pre .2) q (small (c-pre .0) (c-pre .1)) (rw (c-at .ensures .0) at (sym (c-at2 .ensures .0) ∙ c-if1 .left)) in omega arith
+    let l = c-pre .1 .laid in let q = c-pre .1 .ends in let r = root-room (c-pre .0) (c-pre .1) (c-args .n) (c-args .found) (c-pre .2) q (small 65536 (c-pre .0) (c-pre .1) (omega arith)) (rw (c-at .ensures .0) at (sym (c-at2 .ensures .0) ∙ c-if1 .left)) in omega arith
 
 put-requires-2 : tie.Need-put-requires-2
 put-requires-2 c κs =
@@ -88,7 +88,7 @@ put-requires-2 c κs =
     let p3 = p2 .before .before .before .before .before .before in
     let c-pre = p3 .pre in
     let c-args = p3 .args in
-    let l = c-pre .1 .laid in let q = c-pre .1 .ends in let r = root-room (c-pre .0) (c-pre .1) (c-args .n) (c-args .found) (c-pre .2) q (small (c-pre .0) (c-pre .1)) (rw (c-at .ensures .0) at (sym (c-at2 .ensures .0) ∙ c-if1 .left)) in (rw (c-put .ensures, length-set) (omega arith), c-at .ensures .1)
+    let l = c-pre .1 .laid in let q = c-pre .1 .ends in let r = root-room (c-pre .0) (c-pre .1) (c-args .n) (c-args .found) (c-pre .2) q (small 65536 (c-pre .0) (c-pre .1) (omega arith)) (rw (c-at .ensures .0) at (sym (c-at2 .ensures .0) ∙ c-if1 .left)) in (rw (c-put .ensures, length-set) (omega arith), c-at .ensures .1)
 
 follow-requires : tie.Need-follow-requires
 follow-requires c κs =
@@ -102,7 +102,7 @@ follow-requires c κs =
     let p3 = p2 .before .before .before .before .before .before in
     let c-pre = p3 .pre in
     let c-args = p3 .args in
-    let s = gather-start (c-pre .0) (c-pre .1) (c-args .n) (c-args .found) (c-pre .2) (c-pre .1 .ends) (small (c-pre .0) (c-pre .1)) (rw (c-at .ensures .0) at (sym (c-at2 .ensures .0) ∙ c-if1 .left)) (c-at .result) (c-at .ensures .0) in
+    let s = gather-start (c-pre .0) (c-pre .1) (c-args .n) (c-args .found) (c-pre .2) (c-pre .1 .ends) (small 65536 (c-pre .0) (c-pre .1) (omega arith)) (rw (c-at .ensures .0) at (sym (c-at2 .ensures .0) ∙ c-if1 .left)) (c-at .result) (c-at .ensures .0) in
     rw (c-put2 .ensures, c-put .ensures) (c-pre .0, rw (s .kept .size) (c-pre .1), tables-same (s .kept .tables) (s .kept .size) (c-pre .2 .tables), search-restart (c-pre .1 .laid) (s .kept) (c-args .n) (c-pre .2 .fits) s)
 
 same-length-2 : tie.Need-same-length-2
@@ -122,7 +122,7 @@ returns-2 c =
     let p4 = p3 .before .before .before .before .before .before in
     let c-pre = p4 .pre in
     let c-args = p4 .args in
-    let s = gather-start (c-pre .0) (c-pre .1) (c-args .n) (c-args .found) (c-pre .2) (c-pre .1 .ends) (small (c-pre .0) (c-pre .1)) (rw (c-at .ensures .0) at (sym (c-at2 .ensures .0) ∙ c-if1 .left)) (c-at .result) (c-at .ensures .0) in
+    let s = gather-start (c-pre .0) (c-pre .1) (c-args .n) (c-args .found) (c-pre .2) (c-pre .1 .ends) (small 65536 (c-pre .0) (c-pre .1) (omega arith)) (rw (c-at .ensures .0) at (sym (c-at2 .ensures .0) ∙ c-if1 .left)) (c-at .result) (c-at .ensures .0) in
     gather-end (c-pre .0) (c-pre .1) (c-args .n) (c-args .found) (c-follow .result) (c-follow .result) (search-join (c-pre .1 .laid) (s .kept) (c-args .n) (c-pre .2 .fits) (s .front) (rw (c-put2 .ensures, c-put .ensures) at (c-follow .ensures))) (omega arith) (c-pre .2)
 
 pub gather-spec : {M : Type 1} → statement M

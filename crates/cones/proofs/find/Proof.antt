@@ -1,9 +1,12 @@
+use Rattle.area.proofs.LayoutLaws.{room}
 use borrow.Author.Needs.{needs}
 use Rattle.cones.proofs.find.Statement.{statement}
 use Rattle.cones.proofs.find.Tie as tie
 
 bases-of-requires : tie.Need-bases-of-requires
-bases-of-requires c κs = search needs
+bases-of-requires c κs =
+    let c-pre = c .before .before .before .pre in
+    (c-pre .0 .0, room (c-pre .0 .1))
 
 find-in-requires : tie.Need-find-in-requires
 find-in-requires c κs =

@@ -86,7 +86,7 @@ add-add c =
     let p2 = p1 .before .before .before .before .before .before .before in
     let c-args = p2 .args in
     let l = head-place (c-loop .inv .2) (chain-turn (now (c-args .graph)) (c-loop .inv .1) (omega arith) (value-of (c-link-records .ensures) (c-loop .l) (c-value .ensures) (omega arith)) (next-of (c-link-records .ensures) (c-loop .l) (c-next .ensures) (omega arith))) in
-    let s = c-loop .inv .2 .shape .size in omega arith
+    omega arith
 
 add-requires : tie.Need-add-requires Inv-loop μ-loop
 add-requires c κs =

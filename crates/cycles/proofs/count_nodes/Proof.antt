@@ -53,7 +53,7 @@ add-n c =
     let p1 = c .before .before .before .before .before .before .before in
     let c-if1 = p1 .if1 in
     let c-loop = p1 .before .before .loop in
-    let p = node-place (c-loop .inv .2) (c-if1 .taken) in let s = c-loop .inv .2 .shape .size in omega arith
+    let s = c-loop .inv .2 .shape .small in omega arith
 
 loop-less : tie.Need-loop-less Inv-loop μ-loop
 loop-less c = search needs

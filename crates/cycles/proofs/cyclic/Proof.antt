@@ -1,4 +1,4 @@
-use mathlib.Core.Path.{_≡_, sym}
+use mathlib.Core.Path.{_≡_, sym, _∙_}
 use native.Mathlib.Omega.{arith}
 use denote.Ref.{now}
 use lib.ListN.{length}
@@ -15,7 +15,7 @@ set-up-requires c κs =
     let c-bases-of = c .before .bases-of in
     let p1 = c .before .before .before .before in
     let c-pre = p1 .pre in
-    (c-pre .0, rw (c-pre .1) (c-bases-of .ensures), c-pre .1)
+    (c-pre .0, c-bases-of .ensures)
 
 count-all-requires : tie.Need-count-all-requires
 count-all-requires c κs = search needs
@@ -23,7 +23,7 @@ count-all-requires c κs = search needs
 look-all-requires : tie.Need-look-all-requires
 look-all-requires c κs =
     let c-count-all = c .before .before .before .count-all in
-    let s = c-count-all .ensures .shape in (s .laid, s .long, s .size)
+    let s = c-count-all .ensures .shape in (s .laid, s .long, s .small)
 
 settle-all-requires : tie.Need-settle-all-requires
 settle-all-requires c κs =
@@ -35,8 +35,8 @@ settle-all-requires c κs =
     let p3 = p2 .before .before .before in
     let c-pre = p3 .pre in
     let ws = now (p3 .args .graph) in
-    let e : length (c-look-all .last .0) ≡ 32768 = omega (arith, c-look-all .ensures .size) in
-    rw (sym (c-bases-of .ensures .is)) ((c-pre .0, rw e (c-bases-of .ensures), tables-looked ws (c-count-all .ensures) (c-look-all .ensures)), (_, running ws (c-count-all .ensures) (c-look-all .ensures)))
+    let e : length (c-look-all .last .0) ≡ length (now (p3 .args .work)) = search needs in
+    rw (e, sym (c-bases-of .ensures .is)) ((c-pre .0, c-bases-of .ensures, tables-looked ws (c-count-all .ensures) (c-look-all .ensures)), (_, running ws (c-count-all .ensures) (c-look-all .ensures)))
 
 add-result : tie.Need-add-result
 add-result c =
@@ -55,8 +55,10 @@ returns c =
     let c-count-all = p1 .before .before .before .before .count-all in
     let p2 = p1 .before .before .before .before .before .before .before .before .before .before in
     let c-bases-of = p2 .bases-of in
-    let ws = now (c .before .before .before .before .before .before .before .before .before .before .before .before .before .before .before .before .before .before .before .before .args .graph) in
-    answer ws (c-count-all .ensures) (c-look-all .ensures) (rw (sym (c-bases-of .ensures .is)) at (c-settle-all .ensures))
+    let p3 = p2 .before .before .before in
+    let ws = now (p3 .args .graph) in
+    let e : length (c-look-all .last .0) ≡ length (now (p3 .args .work)) = c-look-all .ensures .size ∙ p1 .before .before .before .work2 .given ∙ p1 .before .before .before .before .before .before .before .work .given in
+    answer ws (c-count-all .ensures) (c-look-all .ensures) (rw (e, sym (c-bases-of .ensures .is)) at (c-settle-all .ensures))
 
 pub cyclic-spec : {M : Type 1} → statement M
 cyclic-spec =

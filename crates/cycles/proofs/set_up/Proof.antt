@@ -80,7 +80,7 @@ returns c =
     let p4 = p3 .before .before .before .before in
     let c-pre = p4 .pre in
     let f = filled (counts-part (c-pre .1 .laid) (c-pre .1 .ends) (c-build-in3 .ensures .size ∙ c-build-in2 .ensures .size ∙ c-build-in .ensures .size)) (c-clear .ensures) in
-    set-up-started (c-pre .0) (omega arith) (c-pre .1) (c-pre .2) (omega arith) (c-build-in .ensures) (c-build-in2 .ensures) (c-build-in3 .ensures) f
+    set-up-started (c-pre .0) (omega arith) (omega arith) (c-pre .1) (c-build-in .ensures) (c-build-in2 .ensures) (c-build-in3 .ensures) f
 
 pub set-up-spec : {M : Type 1} → statement M
 set-up-spec =

@@ -1,9 +1,12 @@
+use Rattle.area.proofs.LayoutLaws.{room}
 use borrow.Author.Needs.{needs}
 use Rattle.events.proofs.settle_all.Statement.{statement}
 use Rattle.events.proofs.settle_all.Tie as tie
 
 bases-of-requires : tie.Need-bases-of-requires
-bases-of-requires c κs = search needs
+bases-of-requires c κs =
+    let c-pre = c .before .before .before .pre in
+    (c-pre .0 .0, room (c-pre .0 .1))
 
 settle-in-requires : tie.Need-settle-in-requires
 settle-in-requires c κs =

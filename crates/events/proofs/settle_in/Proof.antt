@@ -8,7 +8,7 @@ use Rattle.events.proofs.settle_in.Statement.{statement}
 use Rattle.events.proofs.settle_in.Tie as tie
 
 abbrev Inv-loop : tie.InvT-loop
-Inv-loop graph work₀ b first head₀ tail₀ work head tail = (head ≤ tail) × (first ≤ tail) × Ran graph b work₀ work 0 first head tail
+Inv-loop graph work₀ b first head₀ tail₀ work head tail = (head ≤ tail) × (first ≤ tail) × Ran 65536 graph b work₀ work 0 first head tail
 
 abbrev μ-loop : tie.MeasureT-loop
 μ-loop graph work₀ b first head₀ tail₀ work head tail = b .atoms + b .nodes - head

@@ -41,7 +41,7 @@ finish-requires c κs =
     let c-at = p1 .before .before .at in
     let p2 = p1 .before .before .before .before .before .before .before in
     let c-pre = p2 .pre in
-    done-finishing (as-top (c-pre .1) (c-pre .2) (c-at .ensures .0)) (rw (c-enum-told .given .1) at (c-look .ensures)) (c-pre .0)
+    done-finishing (as-top (c-pre .1) (c-pre .2) (c-at .ensures .0)) (rw (c-enum-told .given .1) at (c-look .ensures)) (c-pre .0) (omega arith)
 
 enum-known-entry : tie.Need-enum-known-entry
 enum-known-entry c = search needs

@@ -61,7 +61,7 @@ finish-requires c κs =
     let c-take-operand = p1 .take-operand in
     let p2 = p1 .before .before .before .before .before .before .before .before .before .before in
     let c-pre = p2 .pre in
-    done-finishing (c-pre .1) (rw (c-enum-told .given .1) at (c-take-operand .ensures)) (c-pre .0)
+    done-finishing (c-pre .1) (rw (c-enum-told .given .1) at (c-take-operand .ensures)) (c-pre .0) (omega arith)
 
 enum-known-entry : tie.Need-enum-known-entry
 enum-known-entry c = search needs

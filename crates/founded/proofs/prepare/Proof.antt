@@ -48,28 +48,36 @@ returns-2 c =
     let c-check = p1 .check in
     prepares (lengths-refused edition1 _ _ _ _ (sym (c-check .ensures) ∙ ap answerOf (c-enum-told .given .1)) (mask-tested _ (c-bad-mask .ensures) (c-atoms .ensures) (c-if1 .taken))) (not-zero refl)
 
+words-requires : tie.Need-words-requires
+words-requires c κs =
+    let c-enum-told = c .before .before .before .enum-told in
+    let c-check = c .before .before .before .before .before .check in
+    accepted edition1 _ (sym (c-check .ensures) ∙ ap answerOf (c-enum-told .given .1))
+
 returns-3 : tie.Need-returns-3
 returns-3 c =
     let c-if2 = c .if2 in
-    let c-if1 = c .before .if1 in
-    let c-bad-mask = c .before .before .bad-mask in
-    let c-atoms = c .before .before .before .atoms in
-    let p1 = c .before .before .before .before in
+    let c-words = c .before .words in
+    let c-if1 = c .before .before .if1 in
+    let c-bad-mask = c .before .before .before .bad-mask in
+    let c-atoms = c .before .before .before .before .atoms in
+    let p1 = c .before .before .before .before .before in
     let c-enum-told = p1 .enum-told in
     let c-check = p1 .before .before .check in
-    prepares (work-refused edition1 _ _ _ _ (sym (c-check .ensures) ∙ ap answerOf (c-enum-told .given .1)) (mask-tested _ (c-bad-mask .ensures) (c-atoms .ensures) (c-if1 .left)) (work-bad _ (c-if2 .taken))) (not-zero refl)
+    prepares (work-refused edition1 _ _ _ _ (sym (c-check .ensures) ∙ ap answerOf (c-enum-told .given .1)) (mask-tested _ (c-bad-mask .ensures) (c-atoms .ensures) (c-if1 .left)) (work-bad edition1 (now (p1 .before .before .before .before .before .before .args .graph)) (c-if2 .taken) (c-words .ensures))) (not-zero refl)
 
 prepare-accepted-requires : tie.Need-prepare-accepted-requires
 prepare-accepted-requires c κs =
     let c-if2 = c .before .before .if2 in
-    let c-if1 = c .before .before .before .if1 in
-    let p1 = c .before .before .before .before in
+    let c-words = c .before .before .before .words in
+    let c-if1 = c .before .before .before .before .if1 in
+    let p1 = c .before .before .before .before .before in
     let c-bad-mask = p1 .bad-mask in
     let c-atoms = p1 .before .atoms in
     let c-enum-told = p1 .before .before .enum-told in
     let p2 = p1 .before .before .before .before in
     let c-check = p2 .check in
-    (sym (c-check .ensures) ∙ ap answerOf (c-enum-told .given .1), mask-tested _ (c-bad-mask .ensures) (c-atoms .ensures) (c-if1 .left), c-if2 .left)
+    (sym (c-check .ensures) ∙ ap answerOf (c-enum-told .given .1), mask-tested _ (c-bad-mask .ensures) (c-atoms .ensures) (c-if1 .left), c-if2 .left ∙ c-words .ensures)
 
 same-length : tie.Need-same-length
 same-length c = search needs
@@ -90,6 +98,7 @@ prepare-spec =
     atoms-requires
     bad-mask-requires
     returns-2
+    words-requires
     returns-3
     prepare-accepted-requires
     same-length

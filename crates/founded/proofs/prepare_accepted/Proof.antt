@@ -3,6 +3,7 @@ use native.Mathlib.Omega.{arith}
 use denote.Ref.{now}
 use Rattle.theory.specs.Accepted.{edition1}
 use Rattle.graph.proofs.AcceptedLaws.{accepted}
+use Rattle.area.proofs.LayoutLaws.{edition1-roomy}
 use Rattle.preparation.specs.Flags.{Marked}
 use Rattle.founded.proofs.OutcomeLaws.{absorbed-refused, done}
 use Rattle.founded.proofs.CallLaws.{not-zero, prepares, mask-fits, work-fits}
@@ -14,7 +15,7 @@ bases-of-requires : tie.Need-bases-of-requires
 bases-of-requires c κs =
     let c-args = c .before .before .before .args in
     let c-pre = c .before .before .before .pre in
-    accepted edition1 (now (c-args .graph)) (c-pre .0)
+    let a = accepted edition1 (now (c-args .graph)) (c-pre .0) in (a, edition1-roomy a (c-pre .2))
 
 cyclic-atoms-requires : tie.Need-cyclic-atoms-requires
 cyclic-atoms-requires c κs =
@@ -22,7 +23,7 @@ cyclic-atoms-requires c κs =
     let p1 = c .before .before .before .before .before in
     let c-args = p1 .args in
     let c-pre = p1 .pre in
-    (accepted edition1 (now (c-args .graph)) (c-pre .0), rw (c-pre .2) (c-bases-of .ensures))
+    (accepted edition1 (now (c-args .graph)) (c-pre .0), c-bases-of .ensures)
 
 enum-told : tie.Need-enum-told
 enum-told c = search needs
@@ -37,7 +38,7 @@ hand-out-requires c κs =
     let p2 = p1 .before .before .before .before .before .before in
     let c-pre = p2 .pre in
     let k = rw (c-enum-told .given .1) at (c-cyclic-atoms .ensures) in
-    (omega (arith, k .size, c-bases-of .ensures .laid, c-bases-of .ensures .ends, c-pre .2), mask-fits _ _ (c-pre .1) ∙ rw (c-bases-of .ensures .atoms))
+    (omega (arith, k .size, c-bases-of .ensures .laid, c-bases-of .ensures .ends), mask-fits _ _ (c-pre .1) ∙ rw (c-bases-of .ensures .atoms))
 
 enum-known-marks : tie.Need-enum-known-marks
 enum-known-marks c = search needs
@@ -65,7 +66,7 @@ returns c =
     let w = c-cyclic-atoms .last .1 .0 in
     let k = rw (c-enum-told .given .1) at (c-cyclic-atoms .ensures) in
     prepares
-    (done edition1 _ _ _ _ (c-pre .0) (c-pre .1) (work-fits _ (c-pre .2)) w (c-hand-out .ensures .1) (c-bases-of .result .«cyclic_atoms») (c-bases-of .ensures .atoms) (k .size) (k .none) (k .flags) (c-hand-out .ensures .0))
+    (done edition1 _ _ _ _ (c-pre .0) (c-pre .1) (work-fits edition1 (now (p3 .args .graph)) _ (c-pre .2)) w (c-hand-out .ensures .1) (c-bases-of .result .«cyclic_atoms») (c-bases-of .ensures .atoms) (k .size) (k .none) (k .flags) (c-hand-out .ensures .0))
     (λ q. refl)
 
 same-length-3 : tie.Need-same-length-3
@@ -81,7 +82,7 @@ returns-2 c =
     let c-cyclic-atoms = p2 .cyclic-atoms in
     let p3 = p2 .before .before .before .before .before .before in
     let c-pre = p3 .pre in
-    prepares (absorbed-refused edition1 _ _ _ _ (c-pre .0) (c-pre .1) (work-fits _ (c-pre .2)) _ (c-wipe .ensures) (rw (c-marks .given .1) at (c-cyclic-atoms .ensures))) (not-zero refl)
+    prepares (absorbed-refused edition1 _ _ _ _ (c-pre .0) (c-pre .1) (work-fits edition1 (now (p3 .args .graph)) _ (c-pre .2)) _ (c-wipe .ensures) (rw (c-marks .given .1) at (c-cyclic-atoms .ensures))) (not-zero refl)
 
 pub prepare-accepted-spec : {M : Type 1} → statement M
 prepare-accepted-spec =

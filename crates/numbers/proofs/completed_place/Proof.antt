@@ -23,9 +23,6 @@ enum-told-3 c = search needs
 enum-known-c-2 : tie.Need-enum-known-c-2
 enum-known-c-2 c = search needs
 
-cast-result : tie.Need-cast-result
-cast-result c = search needs
-
 returns : tie.Need-returns
 returns c = search needs
 
@@ -42,7 +39,7 @@ returns-5 : tie.Need-returns-5
 returns-5 c =
     let n = c .before .c2 .given .0 .0 in
     let place : n ≡ completedOf (c .before .before .before .args .c) .place = ap (λ (x : Completed). completedOf x .place) (sym (c .before .c2 .given .1)) in
-    (place, search needs)
+    place
 
 pub completed-place-spec : {M : Type 1} → statement M
 completed-place-spec =
@@ -54,7 +51,6 @@ completed-place-spec =
     enum-told-2
     enum-told-3
     enum-known-c-2
-    cast-result
     returns
     returns-2
     returns-3

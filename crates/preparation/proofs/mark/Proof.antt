@@ -1,9 +1,12 @@
+use Rattle.area.proofs.LayoutLaws.{room}
 use borrow.Author.Needs.{needs}
 use Rattle.preparation.proofs.mark.Statement.{statement}
 use Rattle.preparation.proofs.mark.Tie as tie
 
 bases-of-requires : tie.Need-bases-of-requires
-bases-of-requires c κs = search needs
+bases-of-requires c κs =
+    let c-pre = c .before .before .before .pre in
+    (c-pre .0, room (c-pre .1))
 
 mark-in-requires : tie.Need-mark-in-requires
 mark-in-requires c κs =

@@ -19,16 +19,6 @@ body-cone-requires c κs =
 enum-known-n : tie.Need-enum-known-n
 enum-known-n c = search needs
 
-cast-t12 : tie.Need-cast-t12
-cast-t12 c =
-    let c-n = c .before .n in
-    let p1 = c .before .before .before .before .before in
-    let c-body-cone = p1 .body-cone in
-    let p2 = p1 .before .before .before .before .before .before .before .before in
-    let c-pre = p2 .pre in
-    let c-args = p2 .args in
-    let k = cone-refused _ _ _ (c-body-cone .ensures .1) (c-n .given .1) .0 in omega (arith, c-pre .0 .nodes-few, the-nodes (now (c-args .graph)))
-
 enum-told : tie.Need-enum-told
 enum-told c = search needs
 
@@ -76,7 +66,6 @@ mark-in-spec =
     build-rows-requires
     body-cone-requires
     enum-known-n
-    cast-t12
     enum-told
     walk-requires
     same-length

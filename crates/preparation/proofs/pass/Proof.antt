@@ -25,7 +25,7 @@ settle-all-requires c κs =
     let c-cyclic-cone = p1 .cyclic-cone in
     let p2 = p1 .before .before .before .before .before .before in
     let c-pre = p2 .pre in
-    rw (sym (c-pre .1 .is)) ((c-pre .0, based₂ (c-pre .0) (c-pre .1) (c-pre .2) (c-cyclic-cone .ensures .0) (c-cyclic-cone .ensures .1) (c-start .ensures), tables₂ (c-pre .0) (c-pre .1) (c-pre .2) (c-cyclic-cone .ensures .0) (c-cyclic-cone .ensures .1) (c-start .ensures)), (_, running₂ (c-pre .0) (c-pre .1) (c-pre .2) (c-cyclic-cone .ensures .0) (c-cyclic-cone .ensures .1) (c-start .ensures) (omega (arith, c-pre .0 .atoms-few, c-pre .0 .nodes-few, c-pre .1 .atoms, c-pre .1 .nodes))))
+    let f = based₂ (c-pre .0) (c-pre .1) (c-pre .2) (c-cyclic-cone .ensures .0) (c-cyclic-cone .ensures .1) (c-start .ensures) in rw (sym (f .is)) ((c-pre .0, f, tables₂ (c-pre .0) (c-pre .1) (c-pre .2) (c-cyclic-cone .ensures .0) (c-cyclic-cone .ensures .1) (c-start .ensures)), (_, running₂ (c-pre .0) (c-pre .1) (c-pre .2) (c-cyclic-cone .ensures .0) (c-cyclic-cone .ensures .1) (c-start .ensures) (omega (arith, c-pre .0 .atoms-few, c-pre .0 .nodes-few, c-pre .1 .atoms, c-pre .1 .nodes))))
 
 same-length : tie.Need-same-length
 same-length c = search needs
@@ -39,7 +39,8 @@ returns c =
     let c-cyclic-cone = p2 .cyclic-cone in
     let p3 = p2 .before .before .before .before .before .before in
     let c-pre = p3 .pre in
-    passing₃ (c-pre .0) (c-pre .1) (c-pre .2) (c-cyclic-cone .ensures .0) (c-cyclic-cone .ensures .1) (c-start .ensures) (omega (arith, c-pre .0 .atoms-few, c-pre .0 .nodes-few, c-pre .1 .atoms, c-pre .1 .nodes)) (rw (sym (c-pre .1 .is)) at (c-settle-all .ensures))
+    let f = based₂ (c-pre .0) (c-pre .1) (c-pre .2) (c-cyclic-cone .ensures .0) (c-cyclic-cone .ensures .1) (c-start .ensures) in
+    passing₃ (c-pre .0) (c-pre .1) (c-pre .2) (c-cyclic-cone .ensures .0) (c-cyclic-cone .ensures .1) (c-start .ensures) (omega (arith, c-pre .0 .atoms-few, c-pre .0 .nodes-few, c-pre .1 .atoms, c-pre .1 .nodes)) (rw (sym (f .is)) at (c-settle-all .ensures))
 
 pub pass-spec : {M : Type 1} → statement M
 pass-spec =

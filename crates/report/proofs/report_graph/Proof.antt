@@ -1,6 +1,10 @@
 use mathlib.Core.Path.{refl, sym, ap, _∙_}
 use native.Mathlib.Omega.{arith}
 use denote.Ref.{now}
+use Prim.Native.Nat.{_<_}
+use lib.ListN.{getD}
+use Rattle.theory.specs.Accepted.{edition1}
+use Rattle.graph.proofs.PlaceLaws.{graph-place}
 use Rattle.graph.specs.Answer.{Answer, refuse}
 use Rattle.graph.specs.Refusals.{answerOf}
 use Rattle.report.proofs.CallLaws.{print-refusal, checked-low, graph-accepts, answer-graph, answer-masks}
@@ -18,7 +22,13 @@ checked-place-requires : tie.Need-checked-place-requires
 checked-place-requires c κs = search needs
 
 put-refusal-requires : tie.Need-put-refusal-requires
-put-refusal-requires c κs = search needs
+put-refusal-requires c κs =
+    let ws = now (c .before .before .before .before .before .before .before .before .args .graph) in
+    let n : getD ws 2 0 < 65536 = omega (arith, c .before .before .before .before .before .before .before .shared-slice-known .given 2) in
+    let p : getD ws 3 0 < 65536 = omega (arith, c .before .before .before .before .before .before .before .shared-slice-known .given 3) in
+    let k : getD ws 4 0 < 65536 = omega (arith, c .before .before .before .before .before .before .before .shared-slice-known .given 4) in
+    let low : c .checked-place .result < 65536 = rw (c .checked-place .ensures, c .before .before .before .before .check .ensures) (graph-place (omega arith) edition1 ws n p k) in
+    (search needs, low, search needs)
 
 same-length : tie.Need-same-length
 same-length c = search needs
@@ -35,7 +45,7 @@ returns c =
     let c-args = p2 .args in
     let a = answerOf (c-check .result) in
     print-refusal a 0 (answer-graph (now (c-args .graph)) (now (c-args .masks)) 0 a (sym (c-check .ensures)) (λ z. c-if1 .taken (c-checked-number .ensures .0 ∙ z)))
-    (c-checked-number .ensures .0) (c-checked-place .ensures .0) (c-if1 .taken) (λ z. absurd (omega (arith, z, checked-low (c-check .result)))) (c-put-refusal .ensures)
+    (c-checked-number .ensures .0) (c-checked-place .ensures) (c-if1 .taken) (λ z. absurd (omega (arith, z, checked-low (c-check .result)))) (c-put-refusal .ensures)
 
 bad-masks-requires : tie.Need-bad-masks-requires
 bad-masks-requires c κs =

@@ -2,6 +2,10 @@ use mathlib.Core.Path.{_≡_, sym, ap, _∙_}
 use native.Mathlib.Omega.{arith}
 use denote.Ref.{now}
 use borrow.Author.Tests.{eq-eqb}
+use Prim.Native.Nat.{_<_}
+use lib.ListN.{getD}
+use Rattle.theory.specs.Accepted.{edition1}
+use Rattle.founded.proofs.PlaceLaws.{completed-place}
 use Rattle.graph.specs.Answer.{Answer}
 use Rattle.founded.specs.Answers.{completedOf, Completes}
 use Rattle.report.proofs.CallLaws.{pass-row, accepted-few, print-refusal, print-both, lines-same}
@@ -22,7 +26,13 @@ completed-place-requires : tie.Need-completed-place-requires
 completed-place-requires c κs = search needs
 
 put-refusal-requires : tie.Need-put-refusal-requires
-put-refusal-requires c κs = search needs
+put-refusal-requires c κs =
+    let ws = now (c .before .before .before .before .before .before .before .before .before .before .before .before .before .before .before .before .before .before .before .before .before .args .graph) in
+    let n : getD ws 2 0 < 65536 = omega (arith, c .before .before .before .before .before .before .before .before .before .before .before .before .before .before .before .before .before .before .before .before .shared-slice-known .given 2) in
+    let p : getD ws 3 0 < 65536 = omega (arith, c .before .before .before .before .before .before .before .before .before .before .before .before .before .before .before .before .before .before .before .before .shared-slice-known .given 3) in
+    let k : getD ws 4 0 < 65536 = omega (arith, c .before .before .before .before .before .before .before .before .before .before .before .before .before .before .before .before .before .before .before .before .shared-slice-known .given 4) in
+    let low : c .completed-place .result < 65536 = rw (c .completed-place .ensures) (completed-place (omega arith) edition1 ws n p k (c .before .before .before .before .before .before .before .before .complete .ensures)) in
+    (search needs, low, search needs)
 
 same-length : tie.Need-same-length
 same-length c = search needs
@@ -48,9 +58,9 @@ returns c =
     let c-args = p4 .args in
     let c-pre = p4 .pre in
     let a = completedOf (c-complete .result) in
-    let done : Completes (now (c-args .graph)) (now (c-args .never)) (now (c-args .atom-never)) (now (c-args .output)) (c-loops .last .1 .0) (c-complete .last .1 .1 .1 .0) (c-complete .last .1 .1 .1 .1 .0) (c-complete .result) = c-complete .ensures in
+    let done : Completes edition1 (now (c-args .graph)) (now (c-args .never)) (now (c-args .atom-never)) (now (c-args .output)) (c-loops .last .1 .0) (c-complete .last .1 .1 .1 .0) (c-complete .last .1 .1 .1 .1 .0) (c-complete .result) = c-complete .ensures in
     let row = pass-row (c-pre .0) (c-pre .1 .0) (c-loops .kept .1 .0 ∙ c-pre .1 .1) done in
-    print-refusal a (a .place) row (c-completed-number .ensures .0) (c-completed-place .ensures .0) (c-if1 .taken) (done .absorbed) (c-put-refusal .ensures)
+    print-refusal a (a .place) row (c-completed-number .ensures .0) (c-completed-place .ensures) (c-if1 .taken) (done .absorbed) (c-put-refusal .ensures)
 
 atoms-requires : tie.Need-atoms-requires
 atoms-requires c κs =
@@ -91,7 +101,7 @@ returns-2 c =
     let c-args = p4 .args in
     let c-pre = p4 .pre in
     let a = completedOf (c-complete .result) in
-    let done : Completes (now (c-args .graph)) (now (c-args .never)) (now (c-args .atom-never)) (now (c-args .output)) (c-loops .last .1 .0) (c-complete .last .1 .1 .1 .0) (c-complete .last .1 .1 .1 .1 .0) (c-complete .result) = c-complete .ensures in
+    let done : Completes edition1 (now (c-args .graph)) (now (c-args .never)) (now (c-args .atom-never)) (now (c-args .output)) (c-loops .last .1 .0) (c-complete .last .1 .1 .1 .0) (c-complete .last .1 .1 .1 .1 .0) (c-complete .result) = c-complete .ensures in
     let row = pass-row (c-pre .0) (c-pre .1 .0) (c-loops .kept .1 .0 ∙ c-pre .1 .1) done in
     let none : a .number ≡ 0 = sym (c-completed-number .ensures .0) ∙ c-if1 .left in
     print-both (a .place) (ap (λ (x : Answer). x .number) row ∙ none)

@@ -1,6 +1,7 @@
 use mathlib.Core.Path.{refl}
 use native.Mathlib.Omega.{arith}
 use borrow.Author.Tests.{lt-ltb, le-ltb}
+use Rattle.theory.specs.Accepted.{edition1}
 use Rattle.graph.specs.Refusals.{badCounts}
 use borrow.Author.Needs.{needs}
 use Rattle.graph.proofs.rows.bad_counts.Statement.{statement}
@@ -13,7 +14,7 @@ returns : tie.Need-returns
 unfolding badCounts
 returns c =
     let c-atoms = c .before .atoms in
-    rw (← c-atoms .ensures, lt-ltb 1024 (c-atoms .result) (omega arith)) refl
+    rw (← c-atoms .ensures, lt-ltb (edition1 .counts) (c-atoms .result) (omega arith)) refl
 
 nodes-requires : tie.Need-nodes-requires
 nodes-requires c κs = search needs
@@ -23,7 +24,7 @@ unfolding badCounts
 returns-2 c =
     let c-nodes = c .before .nodes in
     let c-atoms = c .before .before .before .atoms in
-    rw (← c-atoms .ensures, ← c-nodes .ensures, le-ltb 1024 (c-atoms .result) (omega arith), lt-ltb 1024 (c-nodes .result) (omega arith)) refl
+    rw (← c-atoms .ensures, ← c-nodes .ensures, le-ltb (edition1 .counts) (c-atoms .result) (omega arith), lt-ltb (edition1 .counts) (c-nodes .result) (omega arith)) refl
 
 producers-requires : tie.Need-producers-requires
 producers-requires c κs = search needs
@@ -35,7 +36,7 @@ returns-3 c =
     let c-nodes = c .before .before .before .nodes in
     let p1 = c .before .before .before .before in
     let c-atoms = p1 .before .atoms in
-    rw (← c-atoms .ensures, ← c-nodes .ensures, ← c-producers .ensures, le-ltb 1024 (c-atoms .result) (omega arith), le-ltb 1024 (c-nodes .result) (omega arith), lt-ltb 1024 (c-producers .result) (omega arith)) refl
+    rw (← c-atoms .ensures, ← c-nodes .ensures, ← c-producers .ensures, le-ltb (edition1 .counts) (c-atoms .result) (omega arith), le-ltb (edition1 .counts) (c-nodes .result) (omega arith), lt-ltb (edition1 .counts) (c-producers .result) (omega arith)) refl
 
 links-requires : tie.Need-links-requires
 links-requires c κs = search needs
@@ -48,7 +49,7 @@ returns-4 c =
     let p1 = c .before .before .before .before in
     let c-nodes = p1 .nodes in
     let c-atoms = p1 .before .before .atoms in
-    rw (← c-atoms .ensures, ← c-nodes .ensures, ← c-producers .ensures, ← c-links .ensures, le-ltb 1024 (c-atoms .result) (omega arith), le-ltb 1024 (c-nodes .result) (omega arith), le-ltb 1024 (c-producers .result) (omega arith)) refl
+    rw (← c-atoms .ensures, ← c-nodes .ensures, ← c-producers .ensures, ← c-links .ensures, le-ltb (edition1 .counts) (c-atoms .result) (omega arith), le-ltb (edition1 .counts) (c-nodes .result) (omega arith), le-ltb (edition1 .counts) (c-producers .result) (omega arith)) refl
 
 pub bad-counts-spec : {M : Type 1} → statement M
 bad-counts-spec =

@@ -3,7 +3,7 @@ use native.Mathlib.Omega.{arith}
 use denote.Ref.{now}
 use lib.ListN.{getD}
 use Rattle.theory.specs.Words.{theoryOf}
-use Rattle.theory.specs.Accepted.{leafEntries, headEntries}
+use Rattle.theory.specs.Accepted.{edition1, leafEntries, headEntries}
 use Rattle.graph.specs.Answer.{firstRefusal}
 use borrow.Author.Tests.{lt-ltb, le-ltb}
 use Rattle.graph.specs.Refusals.{graphRows, badEntries}
@@ -39,7 +39,7 @@ returns c =
     let c-pre = p1 .before .before .pre in
     let ws = now (c-args .graph) in
     let w = walked-fine (c-walk-heads .ensures) (c-heads .given .1) in
-    rw (row-passes _ 8 0 (getD ws 3 0) (w .1) (omega arith) (omega arith), lt-ltb 4096 (leafEntries (theoryOf ws)) (omega (arith, c-pre .1 .1))) refl
+    rw (row-passes _ 8 0 (getD ws 3 0) (w .1) (omega arith) (omega arith), lt-ltb (edition1 .entries) (leafEntries (theoryOf ws)) (omega (arith, c-pre .1 .1))) refl
 
 returns-2 : tie.Need-returns-2
 unfolding graphRows firstRefusal badEntries
@@ -51,7 +51,7 @@ returns-2 c =
     let c-pre = p1 .before .before .pre in
     let ws = now (c-args .graph) in
     let w = walked-fine (c-walk-heads .ensures) (c-heads .given .1) in
-    rw (row-passes _ 8 0 (getD ws 3 0) (w .1) (omega arith) (omega arith), le-ltb 4096 (leafEntries (theoryOf ws)) (omega (arith, c-pre .1 .1)), lt-ltb 4096 (headEntries (theoryOf ws)) (omega (arith, w .0))) refl
+    rw (row-passes _ 8 0 (getD ws 3 0) (w .1) (omega arith) (omega arith), le-ltb (edition1 .entries) (leafEntries (theoryOf ws)) (omega (arith, c-pre .1 .1)), lt-ltb (edition1 .entries) (headEntries (theoryOf ws)) (omega (arith, w .0))) refl
 
 returns-3 : tie.Need-returns-3
 unfolding graphRows firstRefusal
@@ -73,7 +73,7 @@ returns-4 c =
     let c-pre = p1 .before .before .pre in
     let ws = now (c-args .graph) in
     let w = walked-fine (c-walk-heads .ensures) (c-heads .given .1) in
-    rw (row-passes _ 8 0 (getD ws 3 0) (w .1) (omega arith) (omega arith), le-ltb 4096 (leafEntries (theoryOf ws)) (omega (arith, c-pre .1 .1)), le-ltb 4096 (headEntries (theoryOf ws)) (omega (arith, w .0))) refl
+    rw (row-passes _ 8 0 (getD ws 3 0) (w .1) (omega arith) (omega arith), le-ltb (edition1 .entries) (leafEntries (theoryOf ws)) (omega (arith, c-pre .1 .1)), le-ltb (edition1 .entries) (headEntries (theoryOf ws)) (omega (arith, w .0))) refl
 
 pub check-heads-spec : {M : Type 1} → statement M
 check-heads-spec =

@@ -3,6 +3,7 @@ use native.Mathlib.Nat.{le-trans}
 use Prim.Native.Nat.{_≤_, _-_}
 use lib.ListN.{length, getD}
 use Rattle.theory.specs.Words.{chain, theoryOf}
+use Rattle.theory.specs.Accepted.{edition1}
 use Rattle.theory.proofs.ChainLaws.{ending-link, chain-falls}
 use Rattle.graph.specs.Layout.{headLink}
 use Rattle.graph.proofs.FollowLaws.{Between, Along, between-none, between-all, along-first, along-wrong, along-next, along-end, along-few, chain-few}
@@ -61,7 +62,7 @@ add-entries c =
     let c-loop = c .before .before .before .loop in
     let p1 = c .before .before .before .before .before .before .before .before .before .before .before in
     let c-pre = p1 .pre in
-    omega (arith, along-few (c-loop .inv) (c-loop-test .taken) 4096 (λ m. le-trans (chain-few _ m) (c-pre .0 .links-few)))
+    omega (arith, along-few (c-loop .inv) (c-loop-test .taken) (edition1 .links) (λ m. le-trans (chain-few _ m) (c-pre .0 .links-few)))
 
 next-requires : tie.Need-next-requires Inv-loop μ-loop Inv-producers μ-producers
 next-requires c κs =
