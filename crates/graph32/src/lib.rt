@@ -1,0 +1,201 @@
+// Written by tools/widen from crates/graph/src/lib.rt: edit that one.
+// The graph as lent words (document 01, "The graph as lent words"): the kind table, the header, the records, the reader of chains, and the
+// graph check, whose rows are in rows.rt. Words are read by `at` alone, so that no other function knows how wide one is.
+mod edition;
+mod rows;
+
+ghost use mathlib.Core.Path.{_≡_};
+ghost use Prim.Native.Nat.{_+_, _<_, _≤_};
+ghost use lib.ListN.{length, getD};
+ghost use Rattle.theory.specs.Words.{nodeAt, producerAt, chain, Ending};
+ghost use Rattle.theory.specs.Accepted.{Accepted, edition2, sizeOf};
+ghost use Rattle.graph.specs.Layout.{NodeIn, ProducerIn, RecordsOf, LinkIn, valueIn, nextIn};
+ghost use Rattle.graph.specs.Refusals.{graphAnswer, answerOf};
+use graph::Checked;
+
+// The word at i.
+pub fn at(words: &[u32], i: usize) -> usize
+    requires { ⌜ i < length (now words) ⌝ }
+    ensures { λ r. ⌜ (r ≡ getD (now (words .entry)) i 0) × (r < 4294967296) ⌝ }
+{
+    words[i] as usize
+}
+
+// The header's counts.
+pub fn atoms(graph: &[u32]) -> usize
+    requires { ⌜ 5 ≤ length (now graph) ⌝ }
+    ensures { λ r. ⌜ r ≡ getD (now (graph .entry)) 1 0 ⌝ }
+{
+    at(graph, 1)
+}
+
+pub fn nodes(graph: &[u32]) -> usize
+    requires { ⌜ 5 ≤ length (now graph) ⌝ }
+    ensures { λ r. ⌜ r ≡ getD (now (graph .entry)) 2 0 ⌝ }
+{
+    at(graph, 2)
+}
+
+pub fn producers(graph: &[u32]) -> usize
+    requires { ⌜ 5 ≤ length (now graph) ⌝ }
+    ensures { λ r. ⌜ r ≡ getD (now (graph .entry)) 3 0 ⌝ }
+{
+    at(graph, 3)
+}
+
+pub fn links(graph: &[u32]) -> usize
+    requires { ⌜ 5 ≤ length (now graph) ⌝ }
+    ensures { λ r. ⌜ r ≡ getD (now (graph .entry)) 4 0 ⌝ }
+{
+    at(graph, 4)
+}
+
+// A node's record.
+pub fn kind(graph: &[u32], n: usize) -> usize
+    requires { ⌜ NodeIn (now graph) n ⌝ }
+    ensures { λ r. ⌜ r ≡ getD (now (graph .entry)) (nodeAt n) 0 ⌝ }
+{
+    at(graph, 5 + 3 * n)
+}
+
+pub fn operand(graph: &[u32], n: usize) -> usize
+    requires { ⌜ NodeIn (now graph) n ⌝ }
+    ensures { λ r. ⌜ r ≡ getD (now (graph .entry)) (nodeAt n + 1) 0 ⌝ }
+{
+    at(graph, 5 + 3 * n + 1)
+}
+
+pub fn first_leaf(graph: &[u32], n: usize) -> usize
+    requires { ⌜ NodeIn (now graph) n ⌝ }
+    ensures { λ r. ⌜ r ≡ getD (now (graph .entry)) (nodeAt n + 2) 0 ⌝ }
+{
+    at(graph, 5 + 3 * n + 2)
+}
+
+// A producer's record: body + 1, where 0 marks a fact, and the first head link.
+fn producer_at(graph: &[u32], p: usize) -> usize
+    requires { ⌜ ProducerIn (now graph) p ⌝ }
+    ensures { λ r. ⌜ r ≡ producerAt (now (graph .entry)) p ⌝ }
+{
+    5 + 3 * at(graph, 2) + 2 * p
+}
+
+pub fn body(graph: &[u32], p: usize) -> usize
+    requires { ⌜ ProducerIn (now graph) p ⌝ }
+    ensures { λ r. ⌜ r ≡ getD (now (graph .entry)) (producerAt (now (graph .entry)) p) 0 ⌝ }
+{
+    at(graph, producer_at(graph, p))
+}
+
+pub fn first_head(graph: &[u32], p: usize) -> usize
+    requires { ⌜ ProducerIn (now graph) p ⌝ }
+    ensures { λ r. ⌜ r ≡ getD (now (graph .entry)) (producerAt (now (graph .entry)) p + 1) 0 ⌝ }
+{
+    at(graph, producer_at(graph, p) + 1)
+}
+
+// The link records.
+pub fn link_records(graph: &[u32]) -> &[u32]
+    requires { ⌜ length (now graph) ≡ sizeOf (now graph) ⌝ }
+    ensures { λ r. ⌜ RecordsOf (now (graph .entry)) (now r) ⌝ }
+{
+    let from = 5 + 3 * at(graph, 2) + 2 * at(graph, 3);
+    &graph[from..]
+}
+
+// A link's record, by its number from 1: its value and the next link.
+fn value_at(links: &[u32], l: usize) -> usize
+    requires { ⌜ LinkIn (now links) l ⌝ }
+    ensures { λ r. ⌜ r ≡ valueIn (now (links .entry)) l ⌝ }
+{
+    at(links, 2 * l - 2)
+}
+
+fn next_at(links: &[u32], l: usize) -> usize
+    requires { ⌜ LinkIn (now links) l ⌝ }
+    ensures { λ r. ⌜ r ≡ nextIn (now (links .entry)) l ⌝ }
+{
+    at(links, 2 * l - 1)
+}
+
+// The reader of a chain: the words of the graph that hold its links, and a link number. Each function over it takes it apart and calls a plain one.
+pub struct Chain<'a> {
+    pub words: &'a [u32],
+    pub link: usize,
+}
+
+pub fn chain_of<'a>(words: &'a [u32], link: usize) -> Chain<'a>
+    ensures { λ r. ⌜ (r .words ≡ words .entry) × (r .link ≡ link) ⌝ }
+{
+    Chain { words, link }
+}
+
+pub fn chain_link<'a>(c: Chain<'a>) -> usize
+    ensures { λ r. ⌜ r ≡ c .entry .link ⌝ }
+{
+    c.link
+}
+
+pub fn chain_value<'a>(c: Chain<'a>) -> usize
+    requires { ⌜ LinkIn (now (c .words)) (c .link) ⌝ }
+    ensures { λ r. ⌜ r ≡ valueIn (now (c .entry .words)) (c .entry .link) ⌝ }
+{
+    value_at(c.words, c.link)
+}
+
+pub fn chain_next<'a>(c: Chain<'a>) -> Chain<'a>
+    requires { ⌜ LinkIn (now (c .words)) (c .link) ⌝ }
+    ensures { λ r. ⌜ (r .words ≡ c .entry .words) × (r .link ≡ nextIn (now (c .entry .words)) (c .entry .link)) ⌝ }
+{
+    let next = next_at(c.words, c.link);
+    Chain {
+        words: c.words,
+        link: next,
+    }
+}
+
+// What every loop over a chain calls, on the link records.
+pub fn value(links: &[u32], l: usize) -> usize
+    requires { ⌜ LinkIn (now links) l ⌝ }
+    ensures { λ r. ⌜ r ≡ valueIn (now (links .entry)) l ⌝ }
+{
+    chain_value(chain_of(links, l))
+}
+
+pub fn next(links: &[u32], l: usize) -> usize
+    requires { ⌜ LinkIn (now links) l ⌝ }
+    ensures { λ r. ⌜ r ≡ nextIn (now (links .entry)) l ⌝ }
+{
+    chain_link(chain_next(chain_of(links, l)))
+}
+
+// How many entries a chain has, repeats counted.
+pub fn entries(graph: &[u32], first: usize) -> usize
+    requires { ⌜ Accepted edition2 (now graph) × Ending (now graph) first ⌝ }
+    ensures { λ r. ⌜ r ≡ length (chain (now (graph .entry)) first) ⌝ }
+{
+    let links = link_records(graph);
+    let mut n: usize = 0;
+    let mut l = first;
+    while l > 0 {
+        n += 1;
+        l = next(links, l);
+    }
+    n
+}
+
+// The graph check: refusals 1 to 9, in the table's order.
+pub fn check(graph: &[u32]) -> Checked
+    ensures { λ r. ⌜ answerOf r ≡ graphAnswer edition2 (now (graph .entry)) ⌝ }
+{
+    if rows::bad_edition(graph) {
+        return Checked::Edition;
+    }
+    if rows::bad_counts(graph) {
+        return Checked::Counts;
+    }
+    if rows::bad_size(graph) {
+        return Checked::Size;
+    }
+    rows::check_records(graph)
+}
