@@ -17,8 +17,8 @@ use Rattle.agreement.specs.Agreement.{rightPlaces, rightOutput, rightWor
 use Rattle.agreement.proofs.CompareLaws.{no}
 
 -- a code that is equal to that of number and place tells the same answer
-pub check-says : (a : Answer) {n p x y : ℕ} → Tells a x → y ≡ codeOf (refuse n p) → p < 65536 → (eqb x y ≡ true) ↔ (a ≡ refuse n p)
-check-says a {n} {p} {x} {y} t e l = (λ h. same (eqb-true x y h), λ h. eq-eqb x y (t .0 ∙ ap (λ (b : Answer). codeOf b) h ∙ sym e))
+pub check-says : (a : Answer) {n p x y : ℕ} → Tells 65536 a x → y ≡ codeOf 65536 (refuse n p) → p < 65536 → (eqb x y ≡ true) ↔ (a ≡ refuse n p)
+check-says a {n} {p} {x} {y} t e l = (λ h. same (eqb-true x y h), λ h. eq-eqb x y (t .0 ∙ ap (λ (b : Answer). codeOf 65536 b) h ∙ sym e))
   where
     same : x ≡ y → a ≡ refuse n p
     same q =

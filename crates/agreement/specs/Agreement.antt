@@ -44,7 +44,7 @@ pub record Agrees (number : ℕ) (places words : List ℕ) (code : ℕ) (output 
 
 -- the loop test's number: the recorded reply, or the recorded refusal
 abbrev pub neededCode : (number place reply : ℕ) → ℕ
-neededCode number place reply = cond (eqb number 0) reply (codeOf (refuse number place))
+neededCode number place reply = cond (eqb number 0) reply (codeOf 65536 (refuse number place))
 
 -- What each comparison promises of its reply r. The graph check: r is yes exactly if number and place are those of the graph.
 abbrev pub CheckAgrees : (graph : List ℕ) (number place : ℕ) → Bool → Type 0
@@ -54,7 +54,7 @@ CheckAgrees graph number place r = (r ≡ true) ↔ (graphAnswer edition1 graph 
 pub record NeededAgrees (graph : List ℕ) (n number place reply : ℕ) (r : Bool) : Type 0 where
   pub code : ℕ
   pub work : List ℕ
-  pub promised : Needed graph (soiled n) work code
+  pub promised : Needed 65536 edition1 graph (soiled n) work code
   pub told : (r ≡ true) ↔ ((code ≡ neededCode number place reply) × (work ≡ rightWork number (length work)))
 
 -- a call that promises this of the output and the work area that it leaves and of its code
@@ -67,10 +67,10 @@ pub record OutcomeAgrees (Promised : (output work : List ℕ) (code : ℕ) → T
 
 -- preparation and pass over a soiled output of k words and a soiled work area of n words
 abbrev pub PrepareAgrees : (graph : List ℕ) (k n number : ℕ) (places words : List ℕ) → Bool → Type 0
-PrepareAgrees graph k n = OutcomeAgrees (PreparedAs graph (soiledWide k) (soiled n))
+PrepareAgrees graph k n = OutcomeAgrees (PreparedAs 65536 edition1 graph (soiledWide k) (soiled n))
 
 abbrev pub CompleteAgrees : (graph never atomNever : List ℕ) (k n number : ℕ) (places words : List ℕ) → Bool → Type 0
-CompleteAgrees graph never atomNever k n = OutcomeAgrees (CompletedAs graph never atomNever (soiledWide k) (soiled n))
+CompleteAgrees graph never atomNever k n = OutcomeAgrees (CompletedAs 65536 edition1 graph never atomNever (soiledWide k) (soiled n))
 
 -- the program's text; the place of a 12 is free as in the program's promise
 pub record ProgramAgrees (input text : List ℕ) (r : Bool) : Type 0 where

@@ -16,7 +16,7 @@ const WIDE_SOIL: u64 = 6148914691236517205;
 
 // The one number of a refusal, as the archive's calls have it.
 fn code(number: u16, place: u16) -> u32
-    ensures { λ r. ⌜ r ≡ codeOf (refuse number place) ⌝ }
+    ensures { λ r. ⌜ r ≡ codeOf 65536 (refuse number place) ⌝ }
 {
     number as u32 * 65536 + place as u32
 }

@@ -16,7 +16,7 @@ returns : tie.Need-returns
 returns c =
     let c-place = c .before .checked-place in
     let c-number = c .before .before .checked-number in
-    told (c-number .ensures .0) (c-place .ensures .0) (c .code .ensures)
+    told (c-number .ensures .0) (c-place .ensures) (c .code .ensures)
 
 pub checked-code-spec : {M : Type 1} → statement M
 checked-code-spec = tie.close (tie.spec checked-number-requires checked-place-requires code-requires returns)

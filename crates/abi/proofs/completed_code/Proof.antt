@@ -16,7 +16,7 @@ returns : tie.Need-returns
 returns c =
     let c-place = c .before .completed-place in
     let c-number = c .before .before .completed-number in
-    told (c-number .ensures .0) (c-place .ensures .0) (c .code .ensures)
+    told (c-number .ensures .0) (c-place .ensures) (c .code .ensures)
 
 pub completed-code-spec : {M : Type 1} → statement M
 completed-code-spec = tie.close (tie.spec completed-number-requires completed-place-requires code-requires returns)

@@ -13,7 +13,7 @@ enum-known-n : tie.Need-enum-known-n
 enum-known-n c = search needs
 
 checked-code-requires : tie.Need-checked-code-requires
-checked-code-requires c κs = search needs
+checked-code-requires c κs = rw (c .before .n .given .1) at (c .before .before .before .pre)
 
 enum-told-3 : tie.Need-enum-told-3
 enum-told-3 c = search needs

@@ -11,7 +11,7 @@ enum-known-p : tie.Need-enum-known-p
 enum-known-p c = search needs
 
 checked-code-requires : tie.Need-checked-code-requires
-checked-code-requires c κs = search needs
+checked-code-requires c κs = rw (c .before .p .given .1) at (c .before .before .before .pre)
 
 enum-told-2 : tie.Need-enum-told-2
 enum-told-2 c = search needs
@@ -28,11 +28,8 @@ code-requires-2 c κs = search needs
 enum-known-p-2 : tie.Need-enum-known-p-2
 enum-known-p-2 c = search needs
 
-cast-code : tie.Need-cast-code
-cast-code c = search needs
-
 code-requires-3 : tie.Need-code-requires-3
-code-requires-3 c κs = search needs
+code-requires-3 c κs = (omega arith, rw (c .before .p2 .given .1) at (c .before .before .before .pre))
 
 returns : tie.Need-returns
 returns c = rw (c .enum-told .given .1) (refl, omega arith)
@@ -61,7 +58,6 @@ prepared-code-spec =
     enum-told-3
     code-requires-2
     enum-known-p-2
-    cast-code
     code-requires-3
     returns
     returns-2
