@@ -23,3 +23,6 @@ pub mod PrefixLaws
 pub mod TurnedLaws
 pub mod StartingLaws
 pub mod PassStartLaws
+pub mod ClosedLaws
+pub mod AlikeLaws
+pub mod ContentLaws

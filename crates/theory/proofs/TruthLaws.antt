@@ -49,7 +49,7 @@ unfolding all
 all-ext s t [] h = refl
 all-ext s t (x ∷ l) h = ap₂ _&&_ (h x (List·Memᴰ·head refl)) (all-ext s t l (λ m i. h m (List·Memᴰ·tail i)))
 
-holds-ext : (k : Kind) (v : Bool) (s t : Set) (l : List ℕ) → ((m : ℕ) → Mem m l → s m ≡ t m) → holds k v s l ≡ holds k v t l
+pub holds-ext : (k : Kind) (v : Bool) (s t : Set) (l : List ℕ) → ((m : ℕ) → Mem m l → s m ≡ t m) → holds k v s l ≡ holds k v t l
 unfolding holds
 holds-ext False v s t l h = refl
 holds-ext Atom v s t l h = refl

@@ -19,3 +19,5 @@ pub mod Components
 pub mod Search
 pub mod Prefix
 pub mod Starting
+pub mod Alike
+pub mod Content
