@@ -97,7 +97,7 @@ pub fn answer(text: &str) -> Result<String, Box<dyn Error>> {
     let mut said = format!("loops {loops}\nmissing {}", missing.len());
     for atom in missing.iter() {
         said.push(' ');
-        said.push_str(&rules.names[usize::from(atom.0)]);
+        said.push_str(&rules.names[atom.0 as usize]);
     }
     Ok(said)
 }

@@ -1,9 +1,8 @@
-//! The four calls over plain slices. Rust's borrow rules keep the buffers apart, as the calls need.
+//! The calls over plain slices, once for both widths. Rust's borrow rules keep the buffers apart, as the calls need.
 
-use crate::Refusal;
-use crate::raw;
+use crate::{Refusal, Word};
 
-/// The length of the work area, in 16-bit words.
+/// The length of the work area in edition 1, in 16-bit words. In edition 2 it depends on the graph: [`wide::work_words`].
 pub const WORK_WORDS: usize = 32_768;
 
 /// How many 64-bit words a mask over so many numbers has: the node mask over N, the atom mask and the output over A.
@@ -12,52 +11,43 @@ pub const fn mask_words(count: usize) -> usize {
     count.div_ceil(64)
 }
 
-/// A code's number is in the high 16 bits and its place in the low ones.
-fn refusal(code: u32) -> Refusal {
-    let [number, place] = [code >> 16, code & 0xffff].map(|half| half as u16);
-    Refusal::of(number, place).expect("the proved calls answer by no other code")
+/// A code's place is in as many low bits as a word has, its number above them.
+fn refusal<W: Word>(code: u64) -> Refusal {
+    let bits = 8 * size_of::<W>();
+    let (number, place) = (code >> bits, code & ((1 << bits) - 1));
+    u16::try_from(number)
+        .ok()
+        .and_then(|number| Refusal::of(number, place as u32))
+        .expect("the proved calls answer by no other code")
 }
 
-fn answer(code: u32) -> Result<(), Refusal> {
-    match code {
+fn answer<W: Word>(code: W::Code) -> Result<(), Refusal> {
+    match code.into() {
         0 => Ok(()),
-        _ => Err(refusal(code)),
+        code => Err(refusal::<W>(code)),
     }
 }
 
-/// The graph check.
-///
-/// # Errors
-/// The first of 1 to 9 that applies.
-pub fn check(graph: &[u16]) -> Result<(), Refusal> {
+pub fn check<W: Word>(graph: &[W]) -> Result<(), Refusal> {
     // SAFETY: a slice is as many valid, aligned words at a pointer that is not null, and is shared for the call.
-    answer(unsafe { raw::founded_check(graph.as_ptr(), graph.len()) })
+    answer::<W>(unsafe { (W::CALLS.check)(graph.as_ptr(), graph.len()) })
 }
 
-/// The loop test: whether there is a closed walk over all atoms and all nodes. Success leaves the work area all zero, a refusal leaves it as it was.
-///
-/// # Errors
-/// The first of 1 to 9 and 11 that applies.
-pub fn needed(graph: &[u16], work: &mut [u16]) -> Result<bool, Refusal> {
+pub fn needed<W: Word>(graph: &[W], work: &mut [W]) -> Result<bool, Refusal> {
     // SAFETY: as in `check`; `work` is borrowed for this call alone, so nothing else reads or writes it.
     let code =
-        unsafe { raw::founded_needed(graph.as_ptr(), graph.len(), work.as_mut_ptr(), work.len()) };
-    match code {
+        unsafe { (W::CALLS.needed)(graph.as_ptr(), graph.len(), work.as_mut_ptr(), work.len()) };
+    match code.into() {
         0 => Ok(false),
         1 => Ok(true),
-        _ => Err(refusal(code)),
+        code => Err(refusal::<W>(code)),
     }
 }
 
-/// Preparation: the output lists the cyclic atoms (document 01: the marked states). Success and 12 leave the work area all zero; refusals 1 to 11
-/// leave it, and every refusal leaves the output, as it was.
-///
-/// # Errors
-/// The first of 1 to 12 that applies.
-pub fn prepare(graph: &[u16], output: &mut [u64], work: &mut [u16]) -> Result<(), Refusal> {
+pub fn prepare<W: Word>(graph: &[W], output: &mut [u64], work: &mut [W]) -> Result<(), Refusal> {
     // SAFETY: as in `needed`, for `output` too.
-    answer(unsafe {
-        raw::founded_prepare(
+    answer::<W>(unsafe {
+        (W::CALLS.prepare)(
             graph.as_ptr(),
             graph.len(),
             output.as_mut_ptr(),
@@ -68,21 +58,16 @@ pub fn prepare(graph: &[u16], output: &mut [u64], work: &mut [u16]) -> Result<()
     })
 }
 
-/// The pass: the output lists the missing atoms, those that lie in some unfounded set under the cuts of `never` (nodes) and `atom_never` (atoms). It
-/// leaves output and work area as [`prepare`] does.
-///
-/// # Errors
-/// The first of 1 to 12 that applies.
-pub fn complete(
-    graph: &[u16],
+pub fn complete<W: Word>(
+    graph: &[W],
     never: &[u64],
     atom_never: &[u64],
     output: &mut [u64],
-    work: &mut [u16],
+    work: &mut [W],
 ) -> Result<(), Refusal> {
     // SAFETY: as in `prepare`.
-    answer(unsafe {
-        raw::founded_complete(
+    answer::<W>(unsafe {
+        (W::CALLS.complete)(
             graph.as_ptr(),
             graph.len(),
             never.as_ptr(),
@@ -95,4 +80,81 @@ pub fn complete(
             work.len(),
         )
     })
+}
+
+/// The four calls by name, for words of one type.
+macro_rules! named {
+    ($word:ty) => {
+        use crate::{Refusal, calls};
+
+        /// The graph check.
+        ///
+        /// # Errors
+        /// The first of 1 to 9 that applies.
+        pub fn check(graph: &[$word]) -> Result<(), Refusal> {
+            calls::check(graph)
+        }
+
+        /// The loop test: whether there is a closed walk over all atoms and all nodes. Success leaves the work area all zero, a refusal leaves it as it was.
+        ///
+        /// # Errors
+        /// The first of 1 to 9 and 11 that applies.
+        pub fn needed(graph: &[$word], work: &mut [$word]) -> Result<bool, Refusal> {
+            calls::needed(graph, work)
+        }
+
+        /// Preparation: the output lists the cyclic atoms (document 01: the marked states). Success and 12 leave the work area all zero; refusals 1 to 11
+        /// leave it, and every refusal leaves the output, as it was.
+        ///
+        /// # Errors
+        /// The first of 1 to 12 that applies.
+        pub fn prepare(
+            graph: &[$word],
+            output: &mut [u64],
+            work: &mut [$word],
+        ) -> Result<(), Refusal> {
+            calls::prepare(graph, output, work)
+        }
+
+        /// The pass: the output lists the missing atoms, those that lie in some unfounded set under the cuts of `never` (nodes) and `atom_never` (atoms). It
+        /// leaves output and work area as [`prepare`] does.
+        ///
+        /// # Errors
+        /// The first of 1 to 12 that applies.
+        pub fn complete(
+            graph: &[$word],
+            never: &[u64],
+            atom_never: &[u64],
+            output: &mut [u64],
+            work: &mut [$word],
+        ) -> Result<(), Refusal> {
+            calls::complete(graph, never, atom_never, output, work)
+        }
+    };
+}
+
+/// On graphs of edition 1. The crate has these names at its top.
+pub mod narrow {
+    named!(u16);
+}
+
+/// The calls on graphs of edition 2, in 32-bit words.
+///
+/// Each begins with the graph check, which walks each chain by itself: where many share a long tail it may take up to (N + P)·K steps before it gives 9, many minutes. On a graph
+/// that it accepts the time goes by the graph's length and its entries.
+pub mod wide {
+    named!(u32);
+
+    use crate::raw;
+
+    /// The length of the work area that the calls on this graph are lent, in 32-bit words: 16·(A + N + P + 1) + 4·(leaf entries + head entries), as the archive says it.
+    /// None if [`check`] refuses the graph. It walks all chains, and so takes about as long as a graph check.
+    #[must_use]
+    pub fn work_words(graph: &[u32]) -> Option<usize> {
+        // SAFETY: as in `calls::check`.
+        match unsafe { raw::founded_wide_work_words(graph.as_ptr(), graph.len()) } {
+            0 => None,
+            words => Some(words as usize),
+        }
+    }
 }

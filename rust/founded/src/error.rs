@@ -6,7 +6,7 @@ use crate::{AtomId, NodeId, Refusal};
 #[derive(Clone, Copy, Debug, PartialEq, Eq)]
 #[non_exhaustive]
 pub enum Error {
-    /// One more than a theory may have.
+    /// More than a theory may have, or than the edition has room for that it is to be built in.
     TooMany {
         what: &'static str,
         most: usize,

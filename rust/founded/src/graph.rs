@@ -1,76 +1,104 @@
-use crate::{AtomId, Node, NodeId, Producer, ProducerId, Refusal, calls};
+use crate::{AtomId, Node, NodeId, Producer, ProducerId, Refusal, Word, calls};
 
-/// The words of a graph that the proved check has accepted.
+/// The words of a graph that the proved check has accepted: [`Graph`] or [`WideGraph`].
 #[derive(Clone, Debug, PartialEq, Eq)]
-pub struct Graph {
-    words: Vec<u16>,
+pub struct GraphOf<W> {
+    words: Vec<W>,
+    work_words: usize,
 }
 
-impl Graph {
+/// A graph of edition 1, in 16-bit words: up to 1,024 atoms, nodes and producers, up to 4,096 links, leaf entries and head entries.
+pub type Graph = GraphOf<u16>;
+
+/// A graph of edition 2, in 32-bit words: up to 262,144 atoms, nodes and producers, up to 1,048,576 links, leaf entries and head entries.
+pub type WideGraph = GraphOf<u32>;
+
+impl<W: Word> GraphOf<W> {
     /// Words as document 01 lays them out.
     ///
     /// # Errors
     /// The first of refusals 1 to 9 that applies.
-    pub fn from_words(words: Vec<u16>) -> Result<Self, Refusal> {
+    pub fn from_words(words: Vec<W>) -> Result<Self, Refusal> {
         calls::check(&words)?;
-        Ok(Self { words })
+        let mut graph = Self {
+            words,
+            work_words: 0,
+        };
+        let size = graph.atoms() + graph.nodes() + graph.producers();
+        graph.work_words = W::area(size, || graph.entries());
+        Ok(graph)
     }
 
     #[must_use]
-    pub fn words(&self) -> &[u16] {
+    pub fn words(&self) -> &[W] {
         &self.words
     }
 
     #[must_use]
-    pub fn into_words(self) -> Vec<u16> {
+    pub fn into_words(self) -> Vec<W> {
         self.words
     }
 
-    fn at(&self, place: usize) -> usize {
-        usize::from(self.words[place])
+    /// The length of the work area that a call on this graph is lent, in words: 32,768 in edition 1, and in edition 2 what [`wide::work_words`](crate::wide::work_words)
+    /// gives. It is worked out here, by the same formula, when the graph is made: no call walks the chains for it again.
+    #[must_use]
+    pub fn work_words(&self) -> usize {
+        self.work_words
     }
 
-    /// A: how many atoms there are, at most 1,024. They are numbered from 0.
+    fn word(&self, at: usize) -> u32 {
+        self.words[at].into()
+    }
+
+    /// A: how many atoms there are. They are numbered from 0.
     #[must_use]
     pub fn atoms(&self) -> usize {
-        self.at(1)
+        self.word(1) as usize
     }
 
-    /// N: how many nodes there are, at most 1,024. They are numbered from 0.
+    /// N: how many nodes there are. They are numbered from 0.
     #[must_use]
     pub fn nodes(&self) -> usize {
-        self.at(2)
+        self.word(2) as usize
     }
 
-    /// P: how many producers there are, at most 1,024. They are numbered from 0.
+    /// P: how many producers there are. They are numbered from 0.
     #[must_use]
     pub fn producers(&self) -> usize {
-        self.at(3)
+        self.word(3) as usize
+    }
+
+    /// How many leaf entries and head entries there are: what the chains of all nodes and producers have together.
+    fn entries(&self) -> usize {
+        let leaves = (0..self.nodes()).map(|n| 5 + 3 * n + 2);
+        let heads = (0..self.producers()).map(|p| 5 + 3 * self.nodes() + 2 * p + 1);
+        let firsts = leaves.chain(heads).map(|at| self.word(at));
+        firsts.map(|first| self.chain(first).count()).sum()
     }
 
     /// The values along the chain that begins at a link.
-    fn chain(&self, first: u16) -> impl Iterator<Item = u16> {
+    fn chain(&self, first: u32) -> impl Iterator<Item = u32> {
         let links = 5 + 3 * self.nodes() + 2 * self.producers();
-        let mut link = usize::from(first);
+        let mut link = first as usize;
         std::iter::from_fn(move || {
             let at = links + 2 * link.checked_sub(1)?;
-            link = self.at(at + 1);
-            Some(self.words[at])
+            link = self.word(at + 1) as usize;
+            Some(self.word(at))
         })
     }
 
     /// What a node is; None if there is no such node.
     #[must_use]
     pub fn node(&self, node: NodeId) -> Option<Node> {
-        let n = usize::from(node.0);
+        let n = node.0 as usize;
         if n >= self.nodes() {
             return None;
         }
         let at = 5 + 3 * n;
-        let leaves = || self.chain(self.words[at + 2]).map(NodeId).collect();
-        Some(match self.words[at] {
+        let leaves = || self.chain(self.word(at + 2)).map(NodeId).collect();
+        Some(match self.word(at) {
             0 => Node::False,
-            1 => Node::Atom(AtomId(self.words[at + 1])),
+            1 => Node::Atom(AtomId(self.word(at + 1))),
             2 => Node::And(leaves()),
             3 => Node::Or(leaves()),
             4 => Node::Implies,
@@ -83,14 +111,30 @@ impl Graph {
     /// A producer's body and heads; None if there is no such producer.
     #[must_use]
     pub fn producer(&self, producer: ProducerId) -> Option<Producer> {
-        let p = usize::from(producer.0);
+        let p = producer.0 as usize;
         if p >= self.producers() {
             return None;
         }
         let at = 5 + 3 * self.nodes() + 2 * p;
         Some(Producer {
-            body: self.words[at].checked_sub(1).map(NodeId),
-            heads: self.chain(self.words[at + 1]).map(AtomId).collect(),
+            body: self.word(at).checked_sub(1).map(NodeId),
+            heads: self.chain(self.word(at + 1)).map(AtomId).collect(),
         })
+    }
+}
+
+impl Graph {
+    /// The same graph in edition 2: each word is copied, but for the edition. Answers are the same under the same masks.
+    #[must_use]
+    pub fn widen(&self) -> WideGraph {
+        let mut words: Vec<u32> = self.words.iter().copied().map(u32::from).collect();
+        words[0] = u32::EDITION;
+        WideGraph::from_words(words).expect("edition 2 accepts what edition 1 accepts")
+    }
+}
+
+impl From<&Graph> for WideGraph {
+    fn from(graph: &Graph) -> Self {
+        graph.widen()
     }
 }

@@ -34,9 +34,45 @@
 //! # Ok::<(), founded::Error>(())
 //! ```
 //!
-//! - [`Theory`] builds a graph, [`Graph`] holds the words of one that the proved check has accepted.
+//! # Two editions
+//!
+//! A graph is laid down in one of two editions. Both hold the same records and give the same answers; they differ in the width of a word and in how much has room.
+//!
+//! | | edition 1 | edition 2 |
+//! |---|---|---|
+//! | words | 16 bits | 32 bits |
+//! | type, made by | [`Graph`], [`Theory::build`] | [`WideGraph`], [`Theory::build_wide`] |
+//! | most atoms, nodes, producers | 1,024 each | 262,144 each |
+//! | most links, leaf entries, head entries | 4,096 each | 1,048,576 each |
+//! | work area | 32,768 words | as the graph's size asks: [`wide::work_words`] |
+//! | calls over plain slices | [`check`], [`needed`], [`prepare`], [`complete`] | the same names in [`wide`] |
+//!
+//! Ids, masks, lists and refusals are the same in both. A theory that is too large for edition 1 is told so by `build`:
+//!
+//! ```
+//! use founded::{AtomMask, Error, Node, NodeMask, Solver, Theory};
+//!
+//! // 2,000 heaters in a ring, each on because the one before it is.
+//! let mut theory = Theory::new();
+//! let heaters = (0..2_000).map(|_| theory.add_atom()).collect::<Result<Vec<_>, _>>()?;
+//! for (n, &heater) in heaters.iter().enumerate() {
+//!     let on = theory.add_node(Node::Atom(heater))?;
+//!     theory.add_producer(on, &[heaters[(n + 1) % 2_000]])?;
+//! }
+//! assert_eq!(theory.build(), Err(Error::TooMany { what: "atoms", most: 1_024 }));
+//!
+//! let graph = theory.build_wide()?;
+//! let mut solver = Solver::new();
+//! let (never, atom_never) = (NodeMask::none(&graph), AtomMask::none(&graph));
+//! assert_eq!(solver.complete(&graph, &never, &atom_never)?.len(), 2_000);
+//! # Ok::<(), Error>(())
+//! ```
+//!
+//! # What there is
+//!
+//! - [`Theory`] builds a graph, [`Graph`] or [`WideGraph`] holds the words of one that the proved check has accepted. [`Graph::widen`] goes from edition 1 to edition 2.
 //! - [`Solver`] owns the work area and the output and runs the loop test, the preparation and the pass.
-//! - [`check`], [`needed`], [`prepare`] and [`complete`] are the four calls over plain slices, for callers that keep their own memory.
+//! - [`check`], [`needed`], [`prepare`] and [`complete`], here and in [`wide`], are the four calls over plain slices, for callers that keep their own memory.
 //! - [`raw`] has them as the archive does.
 //! - A call is turned away by a [`Refusal`], with document 01's number and place.
 
@@ -48,11 +84,14 @@ pub mod raw;
 mod refusal;
 mod solver;
 mod theory;
+mod word;
 
-pub use calls::{WORK_WORDS, check, complete, mask_words, needed, prepare};
+pub use calls::narrow::{check, complete, needed, prepare};
+pub use calls::{WORK_WORDS, mask_words, wide};
 pub use error::Error;
-pub use graph::Graph;
+pub use graph::{Graph, GraphOf, WideGraph};
 pub use mask::{AtomMask, Atoms, Cut, Mask, NodeMask};
 pub use refusal::Refusal;
 pub use solver::Solver;
 pub use theory::{AtomId, Node, NodeId, Producer, ProducerId, Theory};
+pub use word::Word;

@@ -1,6 +1,7 @@
+use std::iter;
 use std::marker::PhantomData;
 
-use crate::{AtomId, Error, Graph, NodeId, calls};
+use crate::{AtomId, Error, GraphOf, NodeId, Word, calls};
 
 /// What can be cut: nodes and atoms.
 pub trait Cut: Copy + sealed::Numbered {}
@@ -9,20 +10,20 @@ impl Cut for NodeId {}
 impl Cut for AtomId {}
 
 mod sealed {
-    use crate::{AtomId, Error, Graph, NodeId};
+    use crate::{AtomId, Error, GraphOf, NodeId, Word};
 
     pub trait Numbered {
-        fn count(graph: &Graph) -> usize;
-        fn number(self) -> u16;
+        fn count<W: Word>(graph: &GraphOf<W>) -> usize;
+        fn number(self) -> u32;
         fn unknown(self) -> Error;
     }
 
     impl Numbered for NodeId {
-        fn count(graph: &Graph) -> usize {
+        fn count<W: Word>(graph: &GraphOf<W>) -> usize {
             graph.nodes()
         }
 
-        fn number(self) -> u16 {
+        fn number(self) -> u32 {
             self.0
         }
 
@@ -32,11 +33,11 @@ mod sealed {
     }
 
     impl Numbered for AtomId {
-        fn count(graph: &Graph) -> usize {
+        fn count<W: Word>(graph: &GraphOf<W>) -> usize {
             graph.atoms()
         }
 
-        fn number(self) -> u16 {
+        fn number(self) -> u32 {
             self.0
         }
 
@@ -46,14 +47,13 @@ mod sealed {
     }
 }
 
-fn bit(words: &[u64], number: u16) -> bool {
-    let number = usize::from(number);
+fn bit(words: &[u64], number: u32) -> bool {
     words
-        .get(number / 64)
+        .get(number as usize / 64)
         .is_some_and(|word| word >> (number % 64) & 1 == 1)
 }
 
-/// Nodes or atoms of a graph that are cut: a bit for each number, lowest first.
+/// Nodes or atoms of a graph, of either edition, that are cut: a bit for each number, lowest first.
 #[derive(Clone, Debug, PartialEq, Eq)]
 pub struct Mask<I> {
     words: Vec<u64>,
@@ -70,7 +70,7 @@ pub type AtomMask = Mask<AtomId>;
 impl<I: Cut> Mask<I> {
     /// Cuts none.
     #[must_use]
-    pub fn none(graph: &Graph) -> Self {
+    pub fn none<W: Word>(graph: &GraphOf<W>) -> Self {
         let count = I::count(graph);
         Self {
             words: vec![0; calls::mask_words(count)],
@@ -83,7 +83,10 @@ impl<I: Cut> Mask<I> {
     ///
     /// # Errors
     /// One that the graph does not have.
-    pub fn of(graph: &Graph, all: impl IntoIterator<Item = I>) -> Result<Self, Error> {
+    pub fn of<W: Word>(
+        graph: &GraphOf<W>,
+        all: impl IntoIterator<Item = I>,
+    ) -> Result<Self, Error> {
         let mut mask = Self::none(graph);
         all.into_iter().try_for_each(|one| mask.cut(one))?;
         Ok(mask)
@@ -92,7 +95,7 @@ impl<I: Cut> Mask<I> {
     /// # Errors
     /// One that the graph does not have.
     pub fn cut(&mut self, one: I) -> Result<(), Error> {
-        let number = usize::from(one.number());
+        let number = one.number() as usize;
         if number >= self.count {
             return Err(one.unknown());
         }
@@ -129,10 +132,14 @@ impl<'a> Atoms<'a> {
 
     /// The atoms, ascending.
     pub fn iter(self) -> impl Iterator<Item = AtomId> + 'a {
-        let end = self.words.len() as u16 * 64;
-        (0..end)
-            .map(AtomId)
-            .filter(move |&atom| self.contains(atom))
+        (0..)
+            .step_by(64)
+            .zip(self.words)
+            .flat_map(|(first, &word)| {
+                let bits = iter::successors(Some(word), |rest| Some(rest & rest.wrapping_sub(1)));
+                bits.take_while(|&rest| rest != 0)
+                    .map(move |rest| AtomId(first + rest.trailing_zeros()))
+            })
     }
 
     #[must_use]

@@ -3,13 +3,14 @@ use std::fmt;
 
 use crate::{NodeId, ProducerId};
 
-/// A call turned away: one case for each number of document 01's table, "Where a call is turned away". Of several that apply a call gives the lowest.
+/// A call turned away: one case for each number of document 01's table, "Where a call is turned away". Of several that apply a call gives the first
+/// in the table's order. In refusals 1, 2, 9 and 11 each edition has its own numbers.
 #[derive(Clone, Copy, Debug, PartialEq, Eq, Hash)]
 #[non_exhaustive]
 pub enum Refusal {
-    /// 1: fewer than 5 words, or edition not 1.
+    /// 1: fewer than 5 words, or edition not 1 in 16-bit words, not 2 in 32-bit words.
     Edition,
-    /// 2: A, N or P above 1,024, or K above 4,096.
+    /// 2: A, N or P above 1,024, or K above 4,096; in edition 2 above 262,144, or 1,048,576.
     Counts,
     /// 3: length isn't 5 + 3N + 2P + 2K.
     Size,
@@ -18,16 +19,16 @@ pub enum Refusal {
     /// 5: body + 1 above N, or first link above K. The first such producer.
     Producer(ProducerId),
     /// 6: next is above K, or is neither 0 nor greater than the link's own number. The first such link, numbered from 1.
-    Link(u16),
+    Link(u32),
     /// 7: a leaf not below its own node's number. The first such node.
     Leaf(NodeId),
     /// 8: a head not below A. The first such producer.
     Head(ProducerId),
-    /// 9: more than 4,096 leaf entries or more than 4,096 head entries.
+    /// 9: more than 4,096 leaf entries or more than 4,096 head entries; in edition 2 more than 1,048,576.
     Entries,
     /// 10: a mask or the output has another length than the graph asks for.
     Lengths,
-    /// 11: the work area is not exactly 32,768 words.
+    /// 11: the work area is not exactly 32,768 words; in edition 2 not exactly [`wide::work_words`](crate::wide::work_words).
     Work,
     /// 12: the body cone (document 01: the first cone) holds an absorbed node. One such node.
     Absorbed(NodeId),
@@ -36,7 +37,7 @@ pub enum Refusal {
 impl Refusal {
     /// The refusal of this number and place; the place counts only where the number has one. None for a number that no refusal has.
     #[must_use]
-    pub fn of(number: u16, place: u16) -> Option<Self> {
+    pub fn of(number: u16, place: u32) -> Option<Self> {
         Some(match number {
             1 => Self::Edition,
             2 => Self::Counts,
@@ -75,7 +76,7 @@ impl Refusal {
 
     /// The place returned beside the number; 0 where the number has none.
     #[must_use]
-    pub fn place(self) -> u16 {
+    pub fn place(self) -> u32 {
         match self {
             Self::Node(NodeId(n)) | Self::Leaf(NodeId(n)) | Self::Absorbed(NodeId(n)) => n,
             Self::Producer(ProducerId(p)) | Self::Head(ProducerId(p)) => p,
@@ -89,11 +90,13 @@ impl Refusal {
         }
     }
 
-    /// Document 01's words for the number. Its conditions are our nodes, its rules our producers.
+    /// Document 01's words for the number, then edition 2's numbers. Its conditions are our nodes, its rules our producers.
     fn words(self) -> &'static str {
         match self {
-            Self::Edition => "fewer than 5 words, or edition not 1",
-            Self::Counts => "A, N or P above 1,024, or K above 4,096",
+            Self::Edition => "fewer than 5 words, or edition not 1 (in 32-bit words: not 2)",
+            Self::Counts => {
+                "A, N or P above 1,024, or K above 4,096 (edition 2: above 262,144, or 1,048,576)"
+            }
             Self::Size => "length isn't 5 + 3N + 2P + 2K",
             Self::Node(_) => {
                 "kind above 7; operand of an Atom not below A; operand of another kind not 0; first link above K; first link not 0 outside And and Or"
@@ -104,11 +107,15 @@ impl Refusal {
             }
             Self::Leaf(_) => "a leaf not below its own condition's number",
             Self::Head(_) => "a head not below A",
-            Self::Entries => "more than 4,096 leaf entries or more than 4,096 head entries",
+            Self::Entries => {
+                "more than 4,096 leaf entries or more than 4,096 head entries (edition 2: more than 1,048,576)"
+            }
             Self::Lengths => {
                 "the node mask isn't ⌈N/64⌉ words long, or the atom mask or the output isn't ⌈A/64⌉"
             }
-            Self::Work => "not exactly 32,768 16-bit words",
+            Self::Work => {
+                "not exactly 32,768 16-bit words (edition 2: 16·(A + N + P + 1) + 4·(leaf entries + head entries) 32-bit words)"
+            }
             Self::Absorbed(_) => "the first cone holds a condition of kind 7",
         }
     }

@@ -1,18 +1,18 @@
 use std::collections::HashMap;
 
-use crate::{Error, Graph};
+use crate::{Error, Graph, GraphOf, WideGraph, Word};
 
 /// An atom's number (document 01: a state).
 #[derive(Clone, Copy, Debug, PartialEq, Eq, Hash, PartialOrd, Ord)]
-pub struct AtomId(pub u16);
+pub struct AtomId(pub u32);
 
 /// A node's number (document 01: a condition).
 #[derive(Clone, Copy, Debug, PartialEq, Eq, Hash, PartialOrd, Ord)]
-pub struct NodeId(pub u16);
+pub struct NodeId(pub u32);
 
 /// A producer's number (document 01: a rule).
 #[derive(Clone, Copy, Debug, PartialEq, Eq, Hash, PartialOrd, Ord)]
-pub struct ProducerId(pub u16);
+pub struct ProducerId(pub u32);
 
 /// A node by its kind.
 #[derive(Clone, Debug, PartialEq, Eq)]
@@ -42,38 +42,35 @@ pub struct Producer {
     pub heads: Vec<AtomId>,
 }
 
-/// The most atoms, the most nodes and the most producers.
-const MOST: usize = 1_024;
-/// The most leaf entries and the most head entries.
-const MOST_ENTRIES: usize = 4_096;
-
 /// A theory under construction: atoms, nodes and producers, each numbered from 0 in the order in which they are added. [`Theory::build`] lays it down as
-/// a graph.
+/// a graph of edition 1, [`Theory::build_wide`] as one of edition 2. What is added is held to the limits of edition 2.
 #[derive(Clone, Debug, Default)]
 pub struct Theory {
-    atoms: u16,
+    atoms: u32,
     nodes: Vec<Node>,
     producers: Vec<Producer>,
     leaf_entries: usize,
     head_entries: usize,
 }
 
-/// The next number, if one more may be had.
-fn next(what: &'static str, count: usize) -> Result<u16, Error> {
-    match u16::try_from(count) {
-        Ok(number) if count < MOST => Ok(number),
-        _ => Err(Error::TooMany { what, most: MOST }),
+/// So many, if there may be.
+fn within(what: &'static str, count: usize, most: usize) -> Result<usize, Error> {
+    if count <= most {
+        Ok(count)
+    } else {
+        Err(Error::TooMany { what, most })
     }
 }
 
+/// The next number, if one more may be had.
+fn next(what: &'static str, count: usize) -> Result<u32, Error> {
+    within(what, count + 1, u32::MOST)?;
+    Ok(count as u32)
+}
+
+/// The entries of a list counted in, if there may be so many.
 fn entries(what: &'static str, so_far: usize, more: usize) -> Result<usize, Error> {
-    match so_far.checked_add(more) {
-        Some(sum) if sum <= MOST_ENTRIES => Ok(sum),
-        _ => Err(Error::TooMany {
-            what,
-            most: MOST_ENTRIES,
-        }),
-    }
+    within(what, so_far.saturating_add(more), u32::MOST_ENTRIES)
 }
 
 impl Theory {
@@ -83,9 +80,9 @@ impl Theory {
     }
 
     /// # Errors
-    /// More than 1,024 atoms.
+    /// More than 262,144 atoms.
     pub fn add_atom(&mut self) -> Result<AtomId, Error> {
-        let atom = next("atoms", usize::from(self.atoms))?;
+        let atom = next("atoms", self.atoms as usize)?;
         self.atoms += 1;
         Ok(AtomId(atom))
     }
@@ -99,19 +96,16 @@ impl Theory {
     }
 
     /// # Errors
-    /// More than 1,024 nodes or 4,096 leaf entries, no such atom, or a leaf that is not there yet.
+    /// More than 262,144 nodes or 1,048,576 leaf entries, no such atom, or a leaf that is not there yet.
     pub fn add_node(&mut self, node: Node) -> Result<NodeId, Error> {
         let own = NodeId(next("nodes", self.nodes.len())?);
-        match &node {
-            Node::Atom(atom) => self.known(*atom)?,
-            Node::And(leaves) | Node::Or(leaves) => {
-                if let Some(&leaf) = leaves.iter().find(|&&leaf| leaf >= own) {
-                    return Err(Error::LeafNotBelow { leaf, node: own });
-                }
-                self.leaf_entries = entries("leaf entries", self.leaf_entries, leaves.len())?;
-            }
-            Node::False | Node::Implies | Node::Threshold | Node::ExtremumCut | Node::Absorbed => {}
+        if let Node::Atom(atom) = node {
+            self.known(atom)?;
         }
+        if let Some(&leaf) = node.leaves().iter().find(|&&leaf| leaf >= own) {
+            return Err(Error::LeafNotBelow { leaf, node: own });
+        }
+        self.leaf_entries = entries("leaf entries", self.leaf_entries, node.leaves().len())?;
         self.nodes.push(node);
         Ok(own)
     }
@@ -132,9 +126,9 @@ impl Theory {
     /// The heads hold if the body is true.
     ///
     /// # Errors
-    /// More than 1,024 producers or 4,096 head entries, no such node, or no such atom.
+    /// More than 262,144 producers or 1,048,576 head entries, no such node, or no such atom.
     pub fn add_producer(&mut self, body: NodeId, heads: &[AtomId]) -> Result<ProducerId, Error> {
-        if usize::from(body.0) >= self.nodes.len() {
+        if body.0 as usize >= self.nodes.len() {
             return Err(Error::NoNode(body));
         }
         self.add(Some(body), heads)
@@ -143,74 +137,113 @@ impl Theory {
     /// The heads hold.
     ///
     /// # Errors
-    /// More than 1,024 producers or 4,096 head entries, or no such atom.
+    /// More than 262,144 producers or 1,048,576 head entries, or no such atom.
     pub fn add_fact(&mut self, heads: &[AtomId]) -> Result<ProducerId, Error> {
         self.add(None, heads)
     }
 
-    /// The theory as a graph. Lists that end alike share their links.
+    /// The theory as a graph of edition 1. Lists that end alike share their links.
     ///
     /// # Errors
-    /// What the proved check refuses: [`Refusal::Counts`](crate::Refusal::Counts) where the lists take more than 4,096 links.
+    /// [`Error::TooMany`]: more than 1,024 atoms, nodes or producers, or more than 4,096 leaf entries, head entries or links. Edition 2 has room for more:
+    /// [`Theory::build_wide`].
     pub fn build(&self) -> Result<Graph, Error> {
+        self.lay()
+    }
+
+    /// The theory as a graph of edition 2. Lists that end alike share their links.
+    ///
+    /// # Errors
+    /// [`Error::TooMany`]: more than 1,048,576 links. The other limits are held as the theory grows.
+    pub fn build_wide(&self) -> Result<WideGraph, Error> {
+        self.lay()
+    }
+
+    fn lay<W: Word>(&self) -> Result<GraphOf<W>, Error> {
+        within("atoms", self.atoms as usize, W::MOST)?;
+        within("nodes", self.nodes.len(), W::MOST)?;
+        within("producers", self.producers.len(), W::MOST)?;
+        within("leaf entries", self.leaf_entries, W::MOST_ENTRIES)?;
+        within("head entries", self.head_entries, W::MOST_ENTRIES)?;
         let mut chains = Chains::default();
-        let mut records = Vec::new();
-        for node in &self.nodes {
-            let (kind, operand, leaves): (u16, u16, &[NodeId]) = match node {
-                Node::False => (0, 0, &[]),
-                Node::Atom(AtomId(atom)) => (1, *atom, &[]),
-                Node::And(leaves) => (2, 0, leaves),
-                Node::Or(leaves) => (3, 0, leaves),
-                Node::Implies => (4, 0, &[]),
-                Node::Threshold => (5, 0, &[]),
-                Node::ExtremumCut => (6, 0, &[]),
-                Node::Absorbed => (7, 0, &[]),
-            };
-            let first = chains.lay(leaves.iter().map(|leaf| leaf.0));
-            records.push((vec![kind, operand], first));
-        }
-        for producer in &self.producers {
-            let body = producer.body.map_or(0, |node| node.0 + 1);
-            let first = chains.lay(producer.heads.iter().map(|head| head.0));
-            records.push((vec![body], first));
-        }
+        let leaves = self.nodes.iter().map(Node::leaves);
+        let leaves: Vec<u32> = leaves
+            .map(|list| chains.lay(list.iter().map(|leaf| leaf.0)))
+            .collect();
+        let heads = self.producers.iter().map(|producer| &producer.heads);
+        let heads: Vec<u32> = heads
+            .map(|list| chains.lay(list.iter().map(|head| head.0)))
+            .collect();
+        within("links", chains.links.len(), W::MOST_ENTRIES)?;
+
         let counts = [self.nodes.len(), self.producers.len(), chains.links.len()];
-        let mut words = vec![1, self.atoms];
-        words.extend(counts.map(|count| count as u16));
-        for (fields, first) in records {
-            words.extend(fields);
-            words.push(chains.number(first));
+        let [nodes, producers, links] = counts.map(|count| count as u32);
+        let mut words = vec![W::EDITION.into(), self.atoms, nodes, producers, links];
+        for (node, first) in self.nodes.iter().zip(leaves) {
+            let (kind, operand) = node.kind();
+            words.extend([kind, operand, chains.number(first)]);
+        }
+        for (producer, first) in self.producers.iter().zip(heads) {
+            let body = producer.body.map_or(0, |node| node.0 + 1);
+            words.extend([body, chains.number(first)]);
         }
         for &(value, next) in chains.links.iter().rev() {
             words.extend([value, chains.number(next)]);
         }
-        Ok(Graph::from_words(words)?)
+        let words = words.into_iter().map(|word| W::try_from(word).ok());
+        let words = words.collect::<Option<_>>();
+        Ok(GraphOf::from_words(
+            words.expect("the edition's limits are those of its words"),
+        )?)
+    }
+}
+
+impl Node {
+    /// The words for kind and operand.
+    fn kind(&self) -> (u32, u32) {
+        match self {
+            Self::False => (0, 0),
+            Self::Atom(AtomId(atom)) => (1, *atom),
+            Self::And(_) => (2, 0),
+            Self::Or(_) => (3, 0),
+            Self::Implies => (4, 0),
+            Self::Threshold => (5, 0),
+            Self::ExtremumCut => (6, 0),
+            Self::Absorbed => (7, 0),
+        }
+    }
+
+    fn leaves(&self) -> &[NodeId] {
+        match self {
+            Self::And(leaves) | Self::Or(leaves) => leaves,
+            _ => &[],
+        }
     }
 }
 
 /// Links as they are made, each after the one that it leads to. A graph numbers them the other way, since a link leads to greater numbers.
 #[derive(Default)]
 struct Chains {
-    links: Vec<(u16, usize)>,
-    made: HashMap<(u16, usize), usize>,
+    links: Vec<(u32, u32)>,
+    made: HashMap<(u32, u32), u32>,
 }
 
 impl Chains {
     /// Which link, counted from 1, begins a chain of these values; 0 for none.
-    fn lay(&mut self, values: impl DoubleEndedIterator<Item = u16>) -> usize {
+    fn lay(&mut self, values: impl DoubleEndedIterator<Item = u32>) -> u32 {
         values.rev().fold(0, |next, value| {
             *self.made.entry((value, next)).or_insert_with(|| {
                 self.links.push((value, next));
-                self.links.len()
+                self.links.len() as u32
             })
         })
     }
 
-    /// The number of a link in the graph. There are at most 8,192 entries, so it has 16 bits.
-    fn number(&self, made: usize) -> u16 {
+    /// The number of a link in the graph.
+    fn number(&self, made: u32) -> u32 {
         match made {
             0 => 0,
-            _ => (self.links.len() + 1 - made) as u16,
+            _ => self.links.len() as u32 + 1 - made,
         }
     }
 }

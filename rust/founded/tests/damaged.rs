@@ -1,38 +1,39 @@
-//! Any words, any lengths: no call panics, and each leaves output and work area as document 01 says, and all memory beside them alone.
+//! Any words, any lengths, in both editions: no call panics, and each leaves output and work area as document 01 says, and all memory beside them alone.
 
 mod common;
 
-use common::{Rng, theory};
-use founded::{AtomId, Refusal, WORK_WORDS, mask_words};
+use common::{Rng, Width, graph, theory, work_words};
+use founded::{Error, GraphOf, Refusal, Theory, WORK_WORDS, mask_words};
+
+/// How a theory is built in an edition.
+type Build<W> = fn(&Theory) -> Result<GraphOf<W>, Error>;
 
 /// Words that often begin like a graph.
-fn random_words(rng: &mut Rng) -> Vec<u16> {
-    let mut words: Vec<u16> = (0..rng.below(40)).map(|_| rng.below(4) as u16).collect();
-    if rng.below(4) > 0
-        && let Some(first) = words.first_mut()
-    {
-        *first = 1;
+fn random_words<W: Width>(rng: &mut Rng) -> Vec<W> {
+    let mut words: Vec<usize> = (0..rng.below(40)).map(|_| rng.below(4)).collect();
+    if rng.below(3) > 0 && words.len() >= 4 {
+        words.resize(4 + 3 * words[1] + 2 * words[2] + 2 * words[3], 0);
     }
-    if rng.below(3) > 0 && words.len() >= 5 {
-        words.resize(
-            5 + usize::from(3 * words[2] + 2 * words[3] + 2 * words[4]),
-            0,
-        );
+    let mut words = graph::<W>(&words);
+    match rng.below(5) {
+        0 => words[0] = W::low(rng.below(4) as u64),
+        1 if rng.below(4) == 0 => words.clear(),
+        _ => {}
     }
     words
 }
 
 /// A graph with up to three faults.
-fn damaged(rng: &mut Rng) -> Vec<u16> {
+fn damaged<W: Width>(rng: &mut Rng, build: Build<W>) -> Vec<W> {
     let (theory, ..) = theory(rng, 12, true).unwrap();
-    let mut words = theory.build().unwrap().into_words();
+    let mut words = build(&theory).unwrap().into_words();
     for _ in 0..rng.below(4) {
         let at = rng.below(words.len());
         match rng.below(8) {
             0 => words.truncate(at),
-            1 => words.push(0),
-            2 => words[at] = rng.next() as u16,
-            _ => words[at] = rng.below(9) as u16,
+            1 => words.push(W::low(0)),
+            2 => words[at] = W::low(rng.next()),
+            _ => words[at] = W::low(rng.below(9) as u64),
         }
         if words.is_empty() {
             break;
@@ -41,13 +42,13 @@ fn damaged(rng: &mut Rng) -> Vec<u16> {
     words
 }
 
-/// More entries than a graph may have: every producer has the whole chain of links.
-fn crowded(rng: &mut Rng) -> Vec<u16> {
-    let links = 64 + rng.below(4) as u16;
-    let mut words = vec![1, 1, 0, 64, links];
+/// As many entries as a graph may have, or a few more: each of 64 producers has the whole chain of links.
+fn crowded<W: Width>(rng: &mut Rng) -> Vec<W> {
+    let links = W::ENTRIES / 64 + rng.below(4);
+    let mut words = vec![1, 0, 64, links];
     words.extend((0..64).flat_map(|_| [0, 1]));
     words.extend((1..=links).flat_map(|link| [0, (link + 1) % (links + 1)]));
-    words
+    graph(&words)
 }
 
 /// Memory in which a call is lent a part in the middle.
@@ -80,16 +81,16 @@ struct Lengths {
 }
 
 /// Runs `call`, and checks what it leaves against its answer. Gives the output after success.
-fn left(
+fn left<W: Width>(
     lengths: &Lengths,
-    call: impl FnOnce(&mut [u64], &mut [u16]) -> Result<(), Refusal>,
+    call: impl FnOnce(&mut [u64], &mut [W]) -> Result<(), Refusal>,
 ) -> Result<Vec<u64>, Refusal> {
-    let (fill, word) = (0xa5a5_5a5a_0ff0_1234, 0x7b3c);
+    let (fill, word) = (0xa5a5_5a5a_0ff0_1234, W::low(0x7b3c_7b3c));
     let mut output = Lent::new(lengths.output, fill);
     let mut work = Lent::new(lengths.work, word);
     let answer = call(output.part(), work.part());
     let untouched = answer.is_err_and(|refusal| refusal.number() < 12);
-    assert!(work.is_all(word, if untouched { word } else { 0 }));
+    assert!(work.is_all(word, if untouched { word } else { W::low(0) }));
     assert_eq!(
         output.is_all(fill, fill),
         answer.is_err() || lengths.output == 0
@@ -102,21 +103,19 @@ fn has(words: &[u64], atom: usize) -> bool {
 }
 
 /// All four calls on these words. Gives the number of the pass's answer.
-fn run(rng: &mut Rng, graph: &[u16]) -> u16 {
-    let checked = founded::check(graph);
-    let sizes = [2, 1].map(|at| {
-        graph
-            .get(at)
-            .map_or(0, |&count| mask_words(usize::from(count)))
-    });
+fn run<W: Width>(rng: &mut Rng, graph: &[W]) -> u16 {
+    let checked = W::check(graph);
+    let count = |at: usize| graph.get(at).map_or(0, |&word| word.into() as usize);
+    let sizes = [2, 1].map(|at| mask_words(count(at)));
     let [mut never, mut atom_never] = sizes.map(|size| {
         (0..size.min(16))
             .map(|_| rng.next() & rng.next())
             .collect::<Vec<u64>>()
     });
+    let area = checked.map_or(WORK_WORDS, |()| work_words(graph));
     let mut lengths = Lengths {
         output: sizes[1].min(16),
-        work: WORK_WORDS,
+        work: area,
     };
     match rng.below(16) {
         0 => never.push(0),
@@ -128,31 +127,31 @@ fn run(rng: &mut Rng, graph: &[u16]) -> u16 {
 
     let mut yes = false;
     let needed = left(&lengths, |output, work| {
-        yes = founded::needed(graph, work)?;
+        yes = W::needed(graph, work)?;
         output.fill(0);
         Ok(())
     });
-    let cyclic = left(&lengths, |output, work| {
-        founded::prepare(graph, output, work)
-    });
+    let cyclic = left(&lengths, |output, work| W::prepare(graph, output, work));
     let missing = left(&lengths, |output, work| {
-        founded::complete(graph, &never, &atom_never, output, work)
+        W::complete(graph, &never, &atom_never, output, work)
     });
 
+    let made = GraphOf::from_words(graph.to_vec());
+    assert_eq!(made.map(|made| made.work_words()), checked.map(|()| area));
+    assert_eq!(W::work_words(graph), checked.ok().map(|()| area));
     if let Err(refusal) = checked {
         assert!(refusal.number() <= 9);
         let answers = [needed.err(), cyclic.err(), missing.clone().err()];
         assert_eq!(answers, [Some(refusal); 3]);
         return refusal.number();
     }
-    let atoms = usize::from(graph[1]);
-    let bad_work = (lengths.work != WORK_WORDS).then_some(Refusal::Work);
+    let bad_work = (lengths.work != area).then_some(Refusal::Work);
     assert_eq!(needed.err(), bad_work);
     let bad_output = (lengths.output != sizes[1]).then_some(Refusal::Lengths);
     let bad_masks =
         (never.len() != sizes[0] || atom_never.len() != sizes[1]).then_some(Refusal::Lengths);
     match (&cyclic, bad_output.or(bad_work)) {
-        (Err(Refusal::Absorbed(node)), None) => assert_eq!(graph[5 + 3 * usize::from(node.0)], 7),
+        (Err(Refusal::Absorbed(node)), None) => assert_eq!(count(5 + 3 * node.0 as usize), 7),
         (answer, expected) => assert_eq!(answer.as_ref().err(), expected.as_ref()),
     }
     if let Some(refusal) = bad_masks.or(bad_output).or(bad_work) {
@@ -163,23 +162,22 @@ fn run(rng: &mut Rng, graph: &[u16]) -> u16 {
     let (Ok(cyclic), Ok(missing)) = (cyclic, missing) else {
         return 12;
     };
-    for atom in (0..64 * cyclic.len()).map(|atom| atom as u16).map(AtomId) {
-        let a = usize::from(atom.0);
-        assert!(!has(&cyclic, a) || (a < atoms && yes));
-        assert!(!has(&missing, a) || (has(&cyclic, a) && !has(&atom_never, a)));
+    for atom in 0..64 * cyclic.len() {
+        assert!(!has(&cyclic, atom) || (atom < count(1) && yes));
+        assert!(!has(&missing, atom) || (has(&cyclic, atom) && !has(&atom_never, atom)));
     }
     0
 }
 
-#[test]
-fn nothing_panics_and_nothing_else_is_written() {
+/// Random words. One in `rare` is crowded, which takes its time where a graph may have many entries.
+fn nothing_panics<W: Width>(build: Build<W>, rare: u64) {
     let mut numbers = [0; 13];
     for seed in 0..8_000 {
         let mut rng = Rng::new(seed);
         let words = match seed % 16 {
-            0 => crowded(&mut rng),
-            1..4 => random_words(&mut rng),
-            _ => damaged(&mut rng),
+            _ if seed % rare == 0 => crowded(&mut rng),
+            0..4 => random_words(&mut rng),
+            _ => damaged(&mut rng, build),
         };
         numbers[usize::from(run(&mut rng, &words))] += 1;
     }
@@ -187,14 +185,25 @@ fn nothing_panics_and_nothing_else_is_written() {
 }
 
 #[test]
-fn every_prefix_of_a_graph() {
+fn nothing_panics_and_nothing_else_is_written() {
+    nothing_panics(Theory::build, 16);
+    nothing_panics(Theory::build_wide, 250);
+}
+
+fn every_prefix<W: Width>(build: Build<W>) {
     let mut rng = Rng::new(7);
     let (theory, ..) = theory(&mut rng, 200, false).unwrap();
-    let words = theory.build().unwrap().into_words();
+    let words = build(&theory).unwrap().into_words();
     assert!(words.len() > 300);
     for len in 0..words.len() {
         let number = run(&mut rng, &words[..len]);
         assert_eq!(number, if len < 5 { 1 } else { 3 });
     }
     assert!([0, 10, 11].contains(&run(&mut rng, &words)));
+}
+
+#[test]
+fn every_prefix_of_a_graph() {
+    every_prefix(Theory::build);
+    every_prefix(Theory::build_wide);
 }

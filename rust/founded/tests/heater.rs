@@ -1,16 +1,17 @@
-//! The heater and the latch, in document 01's words for C2 to C5.
+//! The heater and the latch, in document 01's words for C2 to C5, in both editions.
 
-use founded::{AtomId, AtomMask, Graph, NodeId, NodeMask, Solver};
+mod common;
 
-const C2: [u16; 19] = [1, 2, 2, 2, 2, 1, 0, 0, 1, 1, 0, 2, 1, 1, 2, 0, 0, 1, 0];
+use common::{Width, graph};
+use founded::{AtomId, AtomMask, GraphOf, NodeId, NodeMask, Solver};
+
+const C2: [usize; 18] = [2, 2, 2, 2, 1, 0, 0, 1, 1, 0, 2, 1, 1, 2, 0, 0, 1, 0];
 
 /// C2 and a fact for atom 0.
-const C3: [u16; 21] = [
-    1, 2, 2, 3, 2, 1, 0, 0, 1, 1, 0, 2, 1, 1, 2, 0, 1, 0, 0, 1, 0,
-];
+const C3: [usize; 20] = [2, 2, 3, 2, 1, 0, 0, 1, 1, 0, 2, 1, 1, 2, 0, 1, 0, 0, 1, 0];
 
-fn missing(words: &[u16], nodes: &[u16], atoms: &[u16]) -> Vec<u16> {
-    let graph = Graph::from_words(words.to_vec()).unwrap();
+fn missing<W: Width>(words: &[usize], nodes: &[u32], atoms: &[u32]) -> Vec<u32> {
+    let graph = GraphOf::<W>::from_words(graph(words)).unwrap();
     let mut solver = Solver::new();
     assert!(solver.needed(&graph));
     assert!(
@@ -26,10 +27,15 @@ fn missing(words: &[u16], nodes: &[u16], atoms: &[u16]) -> Vec<u16> {
     missing.iter().map(|atom| atom.0).collect()
 }
 
+fn cases<W: Width>() {
+    assert_eq!(missing::<W>(&C2, &[], &[]), [0, 1]);
+    assert_eq!(missing::<W>(&C3, &[], &[]), []);
+    assert_eq!(missing::<W>(&C3, &[], &[0]), [1]);
+    assert_eq!(missing::<W>(&C3, &[0], &[]), [1]);
+}
+
 #[test]
 fn c2_to_c5() {
-    assert_eq!(missing(&C2, &[], &[]), [0, 1]);
-    assert_eq!(missing(&C3, &[], &[]), []);
-    assert_eq!(missing(&C3, &[], &[0]), [1]);
-    assert_eq!(missing(&C3, &[0], &[]), [1]);
+    cases::<u16>();
+    cases::<u32>();
 }

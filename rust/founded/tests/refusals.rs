@@ -1,34 +1,57 @@
-//! Each refusal by number and place, on both sides of its edge, with what it leaves in the lent memory.
+//! Each refusal by number and place, on both sides of its edge, in both editions, with what it leaves in the lent memory.
 
-use founded::{AtomMask, Error, Graph, NodeId, NodeMask, Refusal, Solver, WORK_WORDS};
+mod common;
+
+use common::{Width, graph, work_words};
+use founded::{AtomMask, Error, GraphOf, NodeId, NodeMask, Refusal, Solver};
 
 /// Number and place of the graph check; (0, 0) if it accepts.
-fn checked(words: &[u16]) -> (u16, u16) {
-    let answer = founded::check(words);
-    assert_eq!(Graph::from_words(words.to_vec()).err(), answer.err());
+fn checked<W: Width>(words: &[W]) -> (u16, u32) {
+    let answer = W::check(words);
+    let made = GraphOf::from_words(words.to_vec());
+    let area = answer.map(|()| work_words(words));
+    assert_eq!(made.map(|graph| graph.work_words()), area);
+    assert_eq!(W::work_words(words), area.ok());
     answer.map_or_else(|refusal| (refusal.number(), refusal.place()), |()| (0, 0))
 }
 
-/// One atom, two nodes of these words, one producer and two links.
-fn small(nodes: [u16; 6], producer: [u16; 2], links: [u16; 4]) -> Vec<u16> {
-    [&[1, 1, 2, 1, 2][..], &nodes, &producer, &links].concat()
+/// The same for the edition's number and these words.
+fn said<W: Width>(words: &[usize]) -> (u16, u32) {
+    checked::<W>(&graph(words))
 }
 
-#[test]
-fn one_to_eight() {
-    const ATOM_AND: [u16; 6] = [1, 0, 0, 2, 0, 1];
-    const HEAD: [u16; 2] = [2, 2];
-    const LINKS: [u16; 4] = [0, 2, 0, 0];
-    let good = small(ATOM_AND, HEAD, LINKS);
-    assert_eq!(checked(&good), (0, 0));
-    assert_eq!(checked(&good[..4]), (1, 0));
-    assert_eq!(checked(&[]), (1, 0));
-    assert_eq!(checked(&[2, 0, 0, 0, 0]), (1, 0));
-    assert_eq!(checked(&[1, 1_024, 0, 0, 0]), (0, 0));
-    assert_eq!(checked(&[1, 1_025, 0, 0, 0]), (2, 0));
-    assert_eq!(checked(&[1, 0, 0, 0, 4_097]), (2, 0));
-    assert_eq!(checked(&[1, 0, 0, 0, 4_096]), (3, 0));
-    assert_eq!(checked(&good[..good.len() - 1]), (3, 0));
+fn one_to_three<W: Width>() {
+    let (most, links) = (W::LIMIT, W::ENTRIES);
+    assert_eq!(checked::<W>(&[]), (1, 0));
+    assert_eq!(said::<W>(&[0, 0, 0]), (1, 0));
+    assert_eq!(said::<W>(&[0, 0, 0, 0]), (0, 0));
+    for edition in (0..9).filter(|&edition| edition != W::NUMBER) {
+        let mut words = graph::<W>(&[0, 0, 0, 0]);
+        words[0] = W::low(edition.into());
+        assert_eq!(checked(&words), (1, 0));
+    }
+    assert_eq!(said::<W>(&[most, 0, 0, 0]), (0, 0));
+    assert_eq!(said::<W>(&[most + 1, 0, 0, 0]), (2, 0));
+    assert_eq!(said::<W>(&[0, most, 0, 0]), (3, 0));
+    assert_eq!(said::<W>(&[0, most + 1, 0, 0]), (2, 0));
+    assert_eq!(said::<W>(&[0, 0, most, 0]), (3, 0));
+    assert_eq!(said::<W>(&[0, 0, most + 1, 0]), (2, 0));
+    assert_eq!(said::<W>(&[0, 0, 0, links]), (3, 0));
+    assert_eq!(said::<W>(&[0, 0, 0, links + 1]), (2, 0));
+}
+
+/// One atom, two nodes of these words, one producer and two links.
+fn small<W: Width>(nodes: [usize; 6], producer: [usize; 2], links: [usize; 4]) -> (u16, u32) {
+    let words = [&[1, 2, 1, 2][..], &nodes, &producer, &links].concat();
+    assert_eq!(said::<W>(&words[..words.len() - 1]), (3, 0));
+    said::<W>(&words)
+}
+
+fn three_to_eight<W: Width>() {
+    const ATOM_AND: [usize; 6] = [1, 0, 0, 2, 0, 1];
+    const HEAD: [usize; 2] = [2, 2];
+    const LINKS: [usize; 4] = [0, 2, 0, 0];
+    assert_eq!(small::<W>(ATOM_AND, HEAD, LINKS), (0, 0));
     for bad in [
         [8, 0, 0],
         [1, 1, 0],
@@ -38,43 +61,106 @@ fn one_to_eight() {
         [7, 0, 1],
     ] {
         let second = [&ATOM_AND[..3], &bad].concat().try_into().unwrap();
-        assert_eq!(checked(&small(second, HEAD, LINKS)), (4, 1), "{bad:?}");
+        assert_eq!(small::<W>(second, HEAD, LINKS), (4, 1), "{bad:?}");
     }
-    assert_eq!(checked(&small(ATOM_AND, [3, 2], LINKS)), (5, 0));
-    assert_eq!(checked(&small(ATOM_AND, [2, 3], LINKS)), (5, 0));
+    assert_eq!(small::<W>(ATOM_AND, [3, 2], LINKS), (5, 0));
+    assert_eq!(small::<W>(ATOM_AND, [2, 3], LINKS), (5, 0));
     // a next equal to its own link
-    assert_eq!(checked(&small(ATOM_AND, HEAD, [0, 1, 0, 0])), (6, 1));
-    assert_eq!(checked(&small(ATOM_AND, HEAD, [0, 2, 0, 3])), (6, 2));
+    assert_eq!(small::<W>(ATOM_AND, HEAD, [0, 1, 0, 0]), (6, 1));
+    assert_eq!(small::<W>(ATOM_AND, HEAD, [0, 2, 0, 3]), (6, 2));
     // a leaf one below its node passes, an equal one does not
-    assert_eq!(checked(&small(ATOM_AND, [2, 0], [1, 0, 0, 0])), (7, 1));
-    assert_eq!(
-        checked(&small([1, 0, 0, 0, 0, 0], [2, 1], [0, 2, 1, 0])),
-        (8, 0)
-    );
+    assert_eq!(small::<W>(ATOM_AND, [2, 0], [1, 0, 0, 0]), (7, 1));
+    assert_eq!(small::<W>([1, 0, 0, 0, 0, 0], [2, 1], [0, 2, 1, 0]), (8, 0));
+}
+
+/// The greatest places.
+fn far_places<W: Width>() {
+    let most = W::LIMIT;
+    let last = most as u32 - 1;
+    // so many nodes of kind False, the last of these words, and a link for it
+    let nodes = |bad: [usize; 3]| {
+        let mut words = vec![0, most, 0, 1];
+        words.extend(vec![0; 3 * (most - 1)]);
+        words.extend(bad);
+        words.extend([most - 1, 0]);
+        said::<W>(&words)
+    };
+    assert_eq!(nodes([0, 0, 0]), (0, 0));
+    assert_eq!(nodes([8, 0, 0]), (4, last));
+    assert_eq!(nodes([2, 0, 1]), (7, last));
+    // so many producers, the last of these words, and a link for it
+    let producers = |bad: [usize; 2]| {
+        let mut words = vec![1, 0, most, 1];
+        words.extend(vec![0; 2 * (most - 1)]);
+        words.extend(bad);
+        words.extend([1, 0]);
+        said::<W>(&words)
+    };
+    assert_eq!(producers([0, 0]), (0, 0));
+    assert_eq!(producers([1, 0]), (5, last));
+    assert_eq!(producers([0, 1]), (8, last));
+    // so many links, unused
+    let mut words = vec![0, 0, 0, W::ENTRIES];
+    words.extend(vec![0; 2 * W::ENTRIES]);
+    assert_eq!(said::<W>(&words), (0, 0));
+    *words.last_mut().unwrap() = W::ENTRIES + 1;
+    assert_eq!(said::<W>(&words), (6, W::ENTRIES as u32));
+    // the body of a producer with a head is absorbed
+    let mut words = vec![1, most, 1, 1];
+    words.extend(vec![0; 3 * (most - 1)]);
+    words.extend([7, 0, 0, most, 1, 0, 0]);
+    let graph = GraphOf::<W>::from_words(graph(&words)).unwrap();
+    let absorbed = Refusal::Absorbed(NodeId(last));
+    assert_eq!(Solver::new().prepare(&graph).err(), Some(absorbed));
+}
+
+/// As many entries as there may be, all in one chain, and one more.
+fn entries<W: Width>() {
+    let most = W::ENTRIES;
+    let chain = (1..=most).flat_map(|link| [0, (link + 1) % (most + 1)]);
+    // one producer has the whole chain, a second its last link
+    let mut words = vec![1, 0, 2, most, 0, 1, 0, 0];
+    words.extend(chain.clone());
+    assert_eq!(said::<W>(&words), (0, 0));
+    words[7] = most;
+    assert_eq!(said::<W>(&words), (9, 0));
+    // the same of nodes
+    let mut words = vec![0, 3, 0, most, 0, 0, 0, 2, 0, 1, 3, 0, 0];
+    words.extend(chain);
+    assert_eq!(said::<W>(&words), (0, 0));
+    words[12] = most;
+    assert_eq!(said::<W>(&words), (9, 0));
 }
 
 #[test]
-fn entries() {
-    // one producer's chain is 4,096 links long, a second shares its last link
-    let mut words = vec![1, 1, 0, 2, 4_096, 0, 1, 0, 0];
-    words.extend((1..=4_096).flat_map(|link| [0, (link + 1) % 4_097]));
-    assert_eq!(checked(&words), (0, 0));
-    words[8] = 4_096;
-    assert_eq!(checked(&words), (9, 0));
+fn of_the_graph_in_edition_1() {
+    one_to_three::<u16>();
+    three_to_eight::<u16>();
+    far_places::<u16>();
+    entries::<u16>();
+}
+
+#[test]
+fn of_the_graph_in_edition_2() {
+    one_to_three::<u32>();
+    three_to_eight::<u32>();
+    far_places::<u32>();
+    entries::<u32>();
+    assert_eq!(founded::wide::work_words(&[2, 0, 0, 0, 0]), Some(16));
 }
 
 /// C6 of document 01: one atom from a node that names it. Then the same from an absorbed node.
-fn self_loop() -> Graph {
-    Graph::from_words(vec![1, 1, 1, 1, 1, 1, 0, 0, 1, 1, 0, 0]).unwrap()
+fn self_loop<W: Width>() -> GraphOf<W> {
+    GraphOf::from_words(graph(&[1, 1, 1, 1, 1, 0, 0, 1, 1, 0, 0])).unwrap()
 }
 
-fn absorbed() -> Graph {
-    Graph::from_words(vec![1, 1, 2, 1, 1, 0, 0, 0, 7, 0, 0, 2, 1, 0, 0]).unwrap()
+fn absorbed<W: Width>() -> GraphOf<W> {
+    GraphOf::from_words(graph(&[1, 2, 1, 1, 0, 0, 0, 7, 0, 0, 2, 1, 0, 0])).unwrap()
 }
 
 /// Runs preparation and pass with these lengths, and gives the answer if both give the same and leave output and work area as document 01 says.
-fn both(
-    graph: &Graph,
+fn both<W: Width>(
+    graph: &GraphOf<W>,
     never: usize,
     atom_never: usize,
     output: usize,
@@ -82,17 +168,15 @@ fn both(
 ) -> Result<(), Refusal> {
     let (cut, atom_cut) = (vec![0; never], vec![0; atom_never]);
     let run = |pass: bool| {
-        let (mut out, mut area) = (vec![5; output], vec![6; work]);
+        let (mut out, mut area) = (vec![5; output], vec![W::low(6); work]);
         let answer = if pass {
-            founded::complete(graph.words(), &cut, &atom_cut, &mut out, &mut area)
+            W::complete(graph.words(), &cut, &atom_cut, &mut out, &mut area)
         } else {
-            founded::prepare(graph.words(), &mut out, &mut area)
+            W::prepare(graph.words(), &mut out, &mut area)
         };
         let untouched = answer.is_err_and(|refusal| refusal.number() < 12);
-        assert!(
-            area.iter()
-                .all(|&word| word == if untouched { 6 } else { 0 })
-        );
+        let left = W::low(if untouched { 6 } else { 0 });
+        assert!(area.iter().all(|&word| word == left));
         assert!(answer.is_ok() || out.iter().all(|&word| word == 5));
         assert!(answer.is_err() || out == [1]);
         answer
@@ -104,10 +188,9 @@ fn both(
     pass
 }
 
-#[test]
-fn ten_to_twelve() {
-    let work = WORK_WORDS;
-    let graph = self_loop();
+fn ten_to_twelve<W: Width>() {
+    let graph = self_loop::<W>();
+    let work = work_words(graph.words());
     assert_eq!(both(&graph, 1, 1, 1, work), Ok(()));
     for lengths in [
         [0, 1, 1],
@@ -125,29 +208,36 @@ fn ten_to_twelve() {
     }
     for work in [0, work - 1, work + 1] {
         assert_eq!(both(&graph, 1, 1, 1, work), Err(Refusal::Work));
-        assert_eq!(both(&absorbed(), 1, 1, 1, work), Err(Refusal::Work));
-        let mut area = vec![6; work];
-        assert_eq!(
-            founded::needed(graph.words(), &mut area),
-            Err(Refusal::Work)
-        );
-        assert!(area.iter().all(|&word| word == 6));
+        let mut area = vec![W::low(6); work];
+        assert_eq!(W::needed(graph.words(), &mut area), Err(Refusal::Work));
+        assert!(area.iter().all(|&word| word == W::low(6)));
+    }
+
+    let graph = absorbed::<W>();
+    let work = work_words(graph.words());
+    for work in [0, work - 1, work + 1] {
+        assert_eq!(both(&graph, 1, 1, 1, work), Err(Refusal::Work));
     }
     assert_eq!(
-        both(&absorbed(), 1, 1, 1, work),
+        both(&graph, 1, 1, 1, work),
         Err(Refusal::Absorbed(NodeId(1)))
     );
-    let mut area = vec![6; work];
-    assert_eq!(founded::needed(absorbed().words(), &mut area), Ok(false));
-    assert!(area.iter().all(|&word| word == 0));
+    let mut area = vec![W::low(6); work];
+    assert_eq!(W::needed(graph.words(), &mut area), Ok(false));
+    assert!(area.iter().all(|&word| word == W::low(0)));
 }
 
 #[test]
-fn masks_of_another_graph() {
-    let mut words = vec![1, 65, 65, 0, 0];
+fn of_the_other_buffers() {
+    ten_to_twelve::<u16>();
+    ten_to_twelve::<u32>();
+}
+
+fn masks<W: Width>() {
+    let mut words = vec![65, 65, 0, 0];
     words.extend([0; 3 * 65]);
-    let wide = Graph::from_words(words).unwrap();
-    let graph = self_loop();
+    let larger = GraphOf::<W>::from_words(graph(&words)).unwrap();
+    let graph = self_loop::<W>();
     let mut solver = Solver::new();
     let (never, atom_never) = (NodeMask::none(&graph), AtomMask::none(&graph));
     assert_eq!(
@@ -156,23 +246,23 @@ fn masks_of_another_graph() {
             .map(|missing| missing.len()),
         Ok(1)
     );
-    let answer = solver.complete(&wide, &never, &AtomMask::none(&wide));
+    let answer = solver.complete(&larger, &never, &AtomMask::none(&larger));
     assert_eq!(answer.err(), Some(Refusal::Lengths));
-    let answer = solver.complete(&wide, &NodeMask::none(&wide), &atom_never);
+    let answer = solver.complete(&larger, &NodeMask::none(&larger), &atom_never);
     assert_eq!(answer.err(), Some(Refusal::Lengths));
-    let nodes = NodeMask::of(&wide, [0, 64].map(NodeId)).unwrap();
+    let nodes = NodeMask::of(&larger, [0, 64].map(NodeId)).unwrap();
     assert_eq!(nodes.words(), [1, 1]);
     assert!(nodes.contains(NodeId(64)) && !nodes.contains(NodeId(63)));
     assert_eq!(
-        NodeMask::of(&wide, [NodeId(65)]),
+        NodeMask::of(&larger, [NodeId(65)]),
         Err(Error::NoNode(NodeId(65)))
     );
-    let answer = solver
-        .prepare(&absorbed())
-        .err()
-        .map(|refusal| refusal.to_string());
-    let said = "refused 12 1: the first cone holds a condition of kind 7";
-    assert_eq!(answer.as_deref(), Some(said));
+}
+
+#[test]
+fn masks_of_another_graph() {
+    masks::<u16>();
+    masks::<u32>();
 }
 
 #[test]
@@ -180,15 +270,17 @@ fn every_number_is_a_case() {
     for number in 1..=12 {
         let refusal = Refusal::of(number, 0).unwrap();
         assert_eq!((refusal.number(), refusal.place()), (number, 0));
-        assert!(
-            refusal
-                .to_string()
-                .starts_with(&format!("refused {number} 0: "))
-        );
+        let said = refusal.to_string();
+        assert!(said.starts_with(&format!("refused {number} 0: ")));
+        // what an edition has of its own is told for both
+        let own = [1, 2, 9, 11].contains(&number);
+        assert_eq!(said.contains("32-bit") || said.contains("edition 2"), own);
     }
     for number in [4, 5, 6, 7, 8, 12] {
-        assert_eq!(Refusal::of(number, 9).unwrap().place(), 9);
+        assert_eq!(Refusal::of(number, 70_000).unwrap().place(), 70_000);
     }
     assert_eq!(Refusal::of(0, 0), None);
     assert_eq!(Refusal::of(13, 0), None);
+    let said = "refused 12 1: the first cone holds a condition of kind 7";
+    assert_eq!(Refusal::Absorbed(NodeId(1)).to_string(), said);
 }
