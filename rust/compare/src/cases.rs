@@ -7,7 +7,7 @@ pub enum Expected {
     /// The loop test's answer and the missing atoms.
     Answers(bool, Vec<usize>),
     /// 12, with this node.
-    Absorbed(u16),
+    Absorbed(u32),
 }
 
 pub struct Case {

@@ -1,5 +1,9 @@
 //! A graph's content, and the words it is laid down in.
 
+use paper::Kind;
+
+use crate::calls::{Word, word};
+
 /// Kinds by document 01's numbers.
 pub const FALSE: u16 = 0;
 pub const ATOM: u16 = 1;
@@ -60,39 +64,69 @@ impl Content {
     }
 }
 
-/// A graph's records, written freely: nothing is checked here.
-#[derive(Clone, Debug, Default, PartialEq, Eq)]
-pub struct Draft {
-    pub atoms: u16,
-    pub nodes: Vec<[u16; 3]>,
-    pub rules: Vec<[u16; 2]>,
-    /// Value and next; the first is link 1.
-    pub links: Vec<[u16; 2]>,
+/// An accepted graph's content in words anew: heads before leaves, each list in
+/// links of its own, and each opaque node an Implies.
+pub fn laid_out<W: Word>(graph: &paper::Graph) -> Vec<W> {
+    let mut draft = Draft::new(word(graph.atoms));
+    let values = |list: &[usize]| list.iter().map(|&value| word(value)).collect::<Vec<W>>();
+    for rule in &graph.rules {
+        let first = draft.chain(&values(&rule.heads));
+        let body = rule.body.map_or(0, |body| body + 1);
+        draft.rules.push([word(body), first]);
+    }
+    for node in &graph.nodes {
+        let (kind, operand) = match node.kind {
+            Kind::False => (FALSE, 0),
+            Kind::Atom(atom) => (ATOM, atom),
+            Kind::And => (AND, 0),
+            Kind::Or => (OR, 0),
+            Kind::Opaque => (IMPLIES, 0),
+            Kind::Absorbed => (ABSORBED, 0),
+        };
+        let first = draft.chain(&values(&node.leaves));
+        draft.nodes.push([W::from(kind), word(operand), first]);
+    }
+    draft.words()
 }
 
-impl Draft {
-    pub fn new(atoms: u16) -> Self {
+/// A graph's records, written freely: nothing is checked here.
+#[derive(Clone, Debug, PartialEq, Eq)]
+pub struct Draft<W> {
+    pub atoms: W,
+    pub nodes: Vec<[W; 3]>,
+    pub rules: Vec<[W; 2]>,
+    /// Value and next; the first is link 1.
+    pub links: Vec<[W; 2]>,
+}
+
+impl<W: Word> Draft<W> {
+    pub fn new(atoms: W) -> Self {
         Self {
             atoms,
-            ..Self::default()
+            nodes: vec![],
+            rules: vec![],
+            links: vec![],
         }
     }
 
     /// Append a chain of the values; its first link, 0 for none.
-    pub fn chain(&mut self, values: &[u16]) -> u16 {
-        let first = self.links.len() as u16 + 1;
-        for (i, &value) in values.iter().enumerate() {
-            let own = first + i as u16;
-            let next = if i + 1 < values.len() { own + 1 } else { 0 };
-            self.links.push([value, next]);
+    pub fn chain(&mut self, values: &[W]) -> W {
+        if values.is_empty() {
+            return word(0);
         }
-        if values.is_empty() { 0 } else { first }
+        let first = self.links.len() + 1;
+        let last = self.links.len() + values.len();
+        for (own, &value) in (first..).zip(values) {
+            let next = if own < last { own + 1 } else { 0 };
+            self.links.push([value, word(next)]);
+        }
+        word(first)
     }
 
-    pub fn words(&self) -> Vec<u16> {
+    pub fn words(&self) -> Vec<W> {
         let counts = [self.nodes.len(), self.rules.len(), self.links.len()];
-        let mut words = vec![1, self.atoms];
-        words.extend(counts.map(|count| count as u16));
+        let mut words = vec![word(W::EDITION.number as usize), self.atoms];
+        words.extend(counts.map(word::<W>));
         words.extend(self.nodes.iter().flatten());
         words.extend(self.rules.iter().flatten());
         words.extend(self.links.iter().flatten());

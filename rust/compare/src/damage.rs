@@ -1,9 +1,10 @@
 //! Damaged copies of graphs: words changed, dropped, added or exchanged.
 
+use crate::calls::Word;
 use crate::rng::Rng;
 
 /// A copy with one to three faults. It may still pass the graph check.
-pub fn copy(rng: &mut Rng, words: &[u16]) -> Vec<u16> {
+pub fn copy<W: Word>(rng: &mut Rng, words: &[W]) -> Vec<W> {
     let mut copy = words.to_vec();
     for _ in 0..rng.between(1, 3) {
         fault(rng, &mut copy);
@@ -11,17 +12,18 @@ pub fn copy(rng: &mut Rng, words: &[u16]) -> Vec<u16> {
     copy
 }
 
-fn fault(rng: &mut Rng, words: &mut Vec<u16>) {
+fn fault<W: Word>(rng: &mut Rng, words: &mut Vec<W>) {
     if words.is_empty() || rng.chance(1, 20) {
-        words.push(rng.below(4) as u16);
+        words.push(W::cut(rng.below(4) as u64));
         return;
     }
     let at = place(rng, words.len());
+    let old = words[at].number() as u64;
     match rng.below(10) {
-        0 => words[at] = rng.word() as u16,
-        1 => words[at] = words[at].wrapping_add(1),
-        2 => words[at] = words[at].wrapping_sub(1),
-        3 => words[at] ^= 1 << rng.below(16),
+        0 => words[at] = W::cut(rng.word()),
+        1 => words[at] = W::cut(old + 1),
+        2 => words[at] = W::cut(old.wrapping_sub(1)),
+        3 => words[at] = W::cut(old ^ 1 << rng.below(W::BITS)),
         4 => {
             words.remove(at);
         }
@@ -32,16 +34,9 @@ fn fault(rng: &mut Rng, words: &mut Vec<u16>) {
         }
         // Counts, kinds and small numbers: what stands close to the limits.
         _ => {
-            words[at] = *rng.pick(&[
-                0,
-                1,
-                2,
-                3,
-                7,
-                8,
-                words[1 % words.len()],
-                words[words.len() / 2],
-            ])
+            let [zero, one, two, three, seven, eight] = [0, 1, 2, 3, 7, 8].map(W::from);
+            let (count, middle) = (words[1 % words.len()], words[words.len() / 2]);
+            words[at] = *rng.pick(&[zero, one, two, three, seven, eight, count, middle]);
         }
     }
 }

@@ -1,13 +1,15 @@
-//! The original (`oracle`), document 01 (`paper`) and the proved calls
-//! (`founded`) held against each other.
+//! The original (`oracle`), the papers (`paper`) and the proved calls
+//! (`founded`) held against each other, in both editions.
 //!
 //! - [`content`], [`tiny`], [`random`], [`damage`], [`edges`], [`cases`]: inputs;
+//! - [`calls`]: the words of either width, and the calls on them;
 //! - [`agree`]: one graph compared, with its masks;
 //! - [`ours`]: the proved calls, with the memory lent to them watched;
 //! - [`runs`]: whole families of graphs compared;
 //! - [`record`]: the recorded list.
 
 pub mod agree;
+pub mod calls;
 pub mod cases;
 pub mod content;
 pub mod damage;

@@ -6,45 +6,17 @@
 
 use std::ops::Range;
 
-use founded::raw;
-use paper::{Refusal, WORK_WORDS};
+use paper::{Graph, Refusal};
 
+use crate::calls::{Calls, Word};
 use crate::rng::Rng;
-
-/// The four calls as the archive has them.
-#[derive(Clone, Copy)]
-pub struct Calls {
-    pub check: unsafe extern "C" fn(*const u16, usize) -> u32,
-    pub needed: unsafe extern "C" fn(*const u16, usize, *mut u16, usize) -> u32,
-    pub prepare: unsafe extern "C" fn(*const u16, usize, *mut u64, usize, *mut u16, usize) -> u32,
-    pub complete: unsafe extern "C" fn(
-        *const u16,
-        usize,
-        *const u64,
-        usize,
-        *const u64,
-        usize,
-        *mut u64,
-        usize,
-        *mut u16,
-        usize,
-    ) -> u32,
-}
-
-impl Calls {
-    /// The proved ones.
-    pub const ARCHIVE: Self = Self {
-        check: raw::founded_check,
-        needed: raw::founded_needed,
-        prepare: raw::founded_prepare,
-        complete: raw::founded_complete,
-    };
-}
 
 /// How often each call was made, and how often one was turned away, by number.
 #[derive(Clone, Copy, Debug, Default, PartialEq, Eq)]
 pub struct Made {
     pub check: u64,
+    /// Not in edition 1.
+    pub work_words: u64,
     pub needed: u64,
     pub prepare: u64,
     pub complete: u64,
@@ -54,6 +26,7 @@ pub struct Made {
 impl Made {
     pub fn add(&mut self, other: &Self) {
         self.check += other.check;
+        self.work_words += other.work_words;
         self.needed += other.needed;
         self.prepare += other.prepare;
         self.complete += other.complete;
@@ -63,7 +36,7 @@ impl Made {
     }
 
     pub fn all(&self) -> u64 {
-        self.check + self.needed + self.prepare + self.complete
+        self.check + self.work_words + self.needed + self.prepare + self.complete
     }
 }
 
@@ -119,58 +92,95 @@ impl<T: Copy + PartialEq> Lent<T> {
     }
 }
 
-/// The work area of the right length. Its images stay, since it is long.
-struct Work {
-    buffer: Vec<u16>,
-    cleared: Vec<u16>,
-    filled: Vec<Vec<u16>>,
+/// The work area. What it is filled with stays, since it is long, and it is
+/// filled anew only after a call that clears it or for another length.
+struct Work<W> {
+    buffer: Vec<W>,
+    guard: [W; GUARD],
+    /// The fillings, each as far as it was needed.
+    filled: [Vec<W>; 4],
     /// Which of them the buffer holds.
     turn: usize,
+    length: usize,
+    /// Whether it was unchanged each time the length changed.
+    held: bool,
+    rng: Rng,
 }
 
-impl Work {
-    fn new(guard: [u16; GUARD], rng: &mut Rng) -> Self {
-        let image = |words: &mut dyn FnMut(usize) -> u16| -> Vec<u16> {
-            let lent: Vec<u16> = (0..WORK_WORDS).map(words).collect();
-            [&guard[..], &lent, &guard].concat()
-        };
-        let filled = vec![
-            image(&mut |_| rng.word() as u16),
-            image(&mut |_| u16::MAX),
-            image(&mut |i| i as u16),
-            image(&mut |i| 1 + (i % 3) as u16),
-        ];
-        Self {
-            buffer: filled[0].clone(),
-            cleared: image(&mut |_| 0),
-            filled,
+impl<W: Word> Work<W> {
+    fn new(guard: [W; GUARD], rng: Rng) -> Self {
+        let mut work = Self {
+            buffer: vec![],
+            guard,
+            filled: Default::default(),
             turn: 0,
+            length: 0,
+            held: true,
+            rng,
+        };
+        work.fill();
+        work
+    }
+
+    fn fill(&mut self) {
+        let (filled, rng) = (&mut self.filled[self.turn], &mut self.rng);
+        for i in filled.len()..self.length {
+            filled.push(match self.turn {
+                0 => W::cut(rng.word()),
+                1 => W::MAX,
+                2 => W::cut(i as u64),
+                _ => W::cut(1 + i as u64 % 3),
+            });
         }
+        self.buffer.clear();
+        self.buffer.extend_from_slice(&self.guard);
+        self.buffer.extend_from_slice(&filled[..self.length]);
+        self.buffer.extend_from_slice(&self.guard);
+    }
+
+    fn lend(&mut self, length: usize) -> *mut W {
+        if length != self.length {
+            self.held = self.unchanged();
+            self.length = length;
+            self.fill();
+        }
+        self.buffer[GUARD..].as_mut_ptr()
+    }
+
+    /// The slice, if the words around it are as they were.
+    fn guarded(&self) -> Option<&[W]> {
+        let (before, rest) = self.buffer.split_at(GUARD);
+        let (slice, after) = rest.split_at(self.length);
+        (before == self.guard && after == self.guard).then_some(slice)
     }
 
     fn unchanged(&self) -> bool {
-        self.buffer == self.filled[self.turn]
+        let filled = &self.filled[self.turn][..self.length];
+        self.held && self.guarded().is_some_and(|slice| slice == filled)
     }
 
-    /// Whether the buffer was cleared; then it is filled anew.
+    /// Whether the slice was cleared; then it is filled anew.
     fn was_cleared(&mut self) -> bool {
-        let held = self.buffer == self.cleared;
+        let zeros = [W::from(0); 4_096];
+        let held = self.guarded().is_some_and(|slice| {
+            slice
+                .chunks(zeros.len())
+                .all(|part| part == &zeros[..part.len()])
+        });
         self.turn = (self.turn + 1) % self.filled.len();
-        self.buffer.copy_from_slice(&self.filled[self.turn]);
+        self.fill();
         held
     }
 }
 
 /// The memory lent to the calls, and one graph in it at a time.
-pub struct Ours {
-    calls: Calls,
-    graph: Lent<u16>,
+pub struct Ours<W: Word> {
+    calls: Calls<W>,
+    graph: Lent<W>,
     never: Lent<u64>,
     atom_never: Lent<u64>,
     output: Lent<u64>,
-    work: Work,
-    /// A work area of another length.
-    other_work: Lent<u16>,
+    work: Work<W>,
     pub made: Made,
 }
 
@@ -181,25 +191,34 @@ pub struct Lengths {
     pub work: usize,
 }
 
-impl Ours {
-    pub fn new(calls: Calls) -> Self {
+impl Lengths {
+    /// Those that fit a graph.
+    pub fn right<W: Word>(graph: &Graph) -> Self {
+        Self {
+            output: paper::mask_len(graph.atoms),
+            work: W::EDITION.work_words(graph),
+        }
+    }
+}
+
+impl<W: Word> Ours<W> {
+    pub fn new(calls: Calls<W>) -> Self {
         let mut rng = Rng::new(1);
-        let narrow = [(); GUARD].map(|()| rng.word() as u16);
-        let wide = [(); GUARD].map(|()| rng.word());
+        let words = [(); GUARD].map(|()| W::cut(rng.word()));
+        let masks = [(); GUARD].map(|()| rng.word());
         Self {
             calls,
-            graph: Lent::new(narrow),
-            never: Lent::new(wide),
-            atom_never: Lent::new(wide),
-            output: Lent::new(wide),
-            work: Work::new(narrow, &mut rng),
-            other_work: Lent::new(narrow),
+            graph: Lent::new(words),
+            never: Lent::new(masks),
+            atom_never: Lent::new(masks),
+            output: Lent::new(masks),
+            work: Work::new(words, rng),
             made: Made::default(),
         }
     }
 
     /// The graph of the calls that follow.
-    pub fn graph(&mut self, words: &[u16]) {
+    pub fn graph(&mut self, words: &[W]) {
         self.graph.lend(words.iter().copied());
     }
 
@@ -214,17 +233,35 @@ impl Ours {
         self.read_only("check")
     }
 
+    /// The length that the work area must have, 0 of a graph that is refused.
+    ///
+    /// # Errors
+    /// As [`Self::check`].
+    pub fn work_words(&mut self, expected: usize) -> Result<(), String> {
+        let Some(work_words) = self.calls.work_words else {
+            return Ok(());
+        };
+        self.made.work_words += 1;
+        let (graph, graph_len) = (self.graph.start(), self.graph.len());
+        // Safety: the slice lies within its buffer.
+        let found = unsafe { work_words(graph, graph_len) };
+        if found != expected as u64 {
+            return Err(format!("our work_words: {found}, document {expected}"));
+        }
+        self.read_only("work_words")
+    }
+
     /// # Errors
     /// As [`Self::check`].
     pub fn needed(&mut self, work: usize, expected: Result<bool, &Refusal>) -> Result<(), String> {
         self.made.needed += 1;
         let (graph, graph_len) = (self.graph.start(), self.graph.len());
-        let area = self.work_area(work);
+        let area = self.work.lend(work);
         // Safety: each slice lies within a buffer of its own.
         let found = unsafe { (self.calls.needed)(graph, graph_len, area, work) };
         self.answered("needed", found, expected.map(u32::from))?;
         self.read_only("needed")?;
-        self.work_left("needed", work, expected.err())
+        self.work_left("needed", expected.err())
     }
 
     /// # Errors
@@ -237,7 +274,7 @@ impl Ours {
         self.made.prepare += 1;
         self.lend_output(lengths.output);
         let (graph, graph_len) = (self.graph.start(), self.graph.len());
-        let (output, area) = (self.output.start(), self.work_area(lengths.work));
+        let (output, area) = (self.output.start(), self.work.lend(lengths.work));
         // Safety: each slice lies within a buffer of its own.
         let found = unsafe {
             (self.calls.prepare)(graph, graph_len, output, lengths.output, area, lengths.work)
@@ -245,7 +282,7 @@ impl Ours {
         self.answered("prepare", found, expected.map(|_| 0))?;
         self.read_only("prepare")?;
         self.output_left("prepare", expected)?;
-        self.work_left("prepare", lengths.work, expected.err())
+        self.work_left("prepare", expected.err())
     }
 
     /// # Errors
@@ -262,7 +299,7 @@ impl Ours {
         self.atom_never.lend(atom_never.iter().copied());
         self.lend_output(lengths.output);
         let (graph, graph_len) = (self.graph.start(), self.graph.len());
-        let (output, area) = (self.output.start(), self.work_area(lengths.work));
+        let (output, area) = (self.output.start(), self.work.lend(lengths.work));
         // Safety: each slice lies within a buffer of its own.
         let found = unsafe {
             (self.calls.complete)(
@@ -281,16 +318,7 @@ impl Ours {
         self.answered("complete", found, expected.map(|_| 0))?;
         self.read_only("complete")?;
         self.output_left("complete", expected)?;
-        self.work_left("complete", lengths.work, expected.err())
-    }
-
-    /// The work area of that length, filled.
-    fn work_area(&mut self, length: usize) -> *mut u16 {
-        if length == WORK_WORDS {
-            return self.work.buffer[GUARD..].as_mut_ptr();
-        }
-        self.other_work.lend((0..length).map(|i| !(i as u16)));
-        self.other_work.start()
+        self.work_left("complete", expected.err())
     }
 
     /// The output, filled with wild words that differ from call to call.
@@ -303,22 +331,20 @@ impl Ours {
     fn answered(
         &mut self,
         call: &str,
-        found: u32,
+        found: W::Code,
         expected: Result<u32, &Refusal>,
     ) -> Result<(), String> {
+        let found = W::parts(found);
         let right = match expected {
-            Ok(answer) => found == answer,
+            Ok(answer) => found == (0, answer),
             Err(refusal) => {
                 self.made.refused[usize::from(refusal.number)] += 1;
-                let first = u32::from(refusal.number) << 16;
-                let mut places = refusal.places.iter();
-                places.any(|&place| found == first + u32::from(place))
+                found.0 == u32::from(refusal.number) && refusal.places.contains(&found.1)
             }
         };
         if right {
             return Ok(());
         }
-        let found = (found >> 16, found & 0xffff);
         Err(format!("our {call}: {found:?}, document {expected:?}"))
     }
 
@@ -351,15 +377,8 @@ impl Ours {
         ))
     }
 
-    fn work_left(
-        &mut self,
-        call: &str,
-        length: usize,
-        refused: Option<&Refusal>,
-    ) -> Result<(), String> {
-        let number = refused.map_or(0, |refusal| refusal.number);
-        let (due, held) = match number {
-            _ if length != WORK_WORDS => ("unchanged", self.other_work.holds()),
+    fn work_left(&mut self, call: &str, refused: Option<&Refusal>) -> Result<(), String> {
+        let (due, held) = match refused.map_or(0, |refusal| refusal.number) {
             0 | 12 => ("all zero", self.work.was_cleared()),
             // Left to `unchanged`.
             1..=9 => return Ok(()),
@@ -374,7 +393,8 @@ impl Ours {
     }
 
     /// The work area after calls on a graph that is refused: looked at once for
-    /// all of them, since none may write to it and no write can be undone.
+    /// all of the same length, since none may write to it and no write can be
+    /// undone; those of other lengths were looked at when the length changed.
     ///
     /// # Errors
     /// If one of them wrote to it.

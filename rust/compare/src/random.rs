@@ -2,12 +2,15 @@
 //! kind 7 in and out of the cone, unused links with wild values.
 
 use crate::agree::Masks;
+use crate::calls::{Word, word};
 use crate::content::{ABSORBED, AND, ATOM, Draft, IMPLIES, OR};
 use crate::rng::Rng;
 
 /// How large a graph may become, and how long its lists.
 #[derive(Clone, Copy, Debug)]
 pub struct Scale {
+    /// The least of each count.
+    pub least: usize,
     pub atoms: usize,
     pub nodes: usize,
     pub rules: usize,
@@ -17,16 +20,26 @@ pub struct Scale {
 
 /// Sizes in the order they are drawn from, small ones first.
 pub const SCALES: [Scale; 6] = [
-    scale(3, 4, 4, 2, 24),
-    scale(6, 8, 8, 4, 60),
-    scale(10, 16, 14, 5, 120),
-    scale(80, 140, 90, 6, 700),
-    scale(300, 500, 300, 8, 2_000),
-    scale(1_024, 1_024, 1_024, 12, 4_096),
+    scale(0, [3, 4, 4], 2, 24),
+    scale(0, [6, 8, 8], 4, 60),
+    scale(0, [10, 16, 14], 5, 120),
+    scale(0, [80, 140, 90], 6, 700),
+    scale(0, [300, 500, 300], 8, 2_000),
+    scale(0, [1_024, 1_024, 1_024], 12, 4_096),
 ];
 
-const fn scale(atoms: usize, nodes: usize, rules: usize, list: usize, links: usize) -> Scale {
+/// Sizes above edition 1's limits, in the same order.
+pub const WIDE_SCALES: [Scale; 4] = [
+    scale(1_025, [2_000, 3_000, 2_000], 8, 12_000),
+    scale(2_000, [20_000, 20_000, 20_000], 6, 100_000),
+    scale(20_000, [120_000, 70_000, 90_000], 9, 400_000),
+    scale(70_000, [262_144, 262_144, 262_144], 12, 1_048_576),
+];
+
+const fn scale(least: usize, most: [usize; 3], list: usize, links: usize) -> Scale {
+    let [atoms, nodes, rules] = most;
     Scale {
+        least,
         atoms,
         nodes,
         rules,
@@ -37,15 +50,13 @@ const fn scale(atoms: usize, nodes: usize, rules: usize, list: usize, links: usi
 
 /// Links under construction. They are made from the last to the first, since a
 /// next is greater than its own link: `next` is a position in `made`, plus 1.
-struct Links {
-    made: Vec<(u16, usize)>,
+struct Links<W> {
+    made: Vec<(W, usize)>,
     room: usize,
     entries: usize,
 }
 
-const MOST_ENTRIES: usize = 4_096;
-
-impl Links {
+impl<W: Word> Links<W> {
     fn new(room: usize) -> Self {
         Self {
             made: vec![],
@@ -54,7 +65,7 @@ impl Links {
         }
     }
 
-    fn push(&mut self, value: u16, next: usize) -> usize {
+    fn push(&mut self, value: W, next: usize) -> usize {
         self.made.push((value, next));
         self.made.len()
     }
@@ -65,7 +76,7 @@ impl Links {
         let mut link = first;
         while link != 0 {
             let (value, next) = self.made[link - 1];
-            if usize::from(value) >= bound {
+            if value.number() >= bound {
                 return None;
             }
             length += 1;
@@ -79,6 +90,7 @@ impl Links {
         if bound == 0 {
             return 0;
         }
+        let most_entries = W::EDITION.entries;
         let mut first = 0;
         let mut length = 0;
         if !self.made.is_empty() && rng.chance(1, 3) {
@@ -87,17 +99,17 @@ impl Links {
                 (first, length) = (tail, tail_length);
             }
         }
-        if self.entries + length > MOST_ENTRIES {
+        if self.entries + length > most_entries {
             (first, length) = (0, 0);
         }
         for _ in 0..rng.between(0, most) {
-            if self.made.len() >= self.room || self.entries + length >= MOST_ENTRIES {
+            if self.made.len() >= self.room || self.entries + length >= most_entries {
                 break;
             }
             if rng.chance(1, 12) && self.made.len() + 1 < self.room {
                 self.unused(rng);
             }
-            first = self.push(value(rng, bound), first);
+            first = self.push(word(value(rng, bound)), first);
             length += 1;
         }
         self.entries += length;
@@ -107,24 +119,24 @@ impl Links {
     /// A link in no chain, unless a later tail takes it up.
     fn unused(&mut self, rng: &mut Rng) {
         let wild = match rng.below(3) {
-            0 => u16::MAX,
-            1 => rng.word() as u16,
-            _ => rng.below(8) as u16,
+            0 => W::MAX,
+            1 => W::cut(rng.word()),
+            _ => W::cut(rng.below(8) as u64),
         };
         let next = rng.between(0, self.made.len());
         self.push(wild, next);
     }
 
     /// The final number of a link: the last made is link 1.
-    fn number(&self, link: usize) -> u16 {
-        if link == 0 {
+    fn number(&self, link: usize) -> W {
+        word(if link == 0 {
             0
         } else {
-            (self.made.len() + 1 - link) as u16
-        }
+            self.made.len() + 1 - link
+        })
     }
 
-    fn records(&self) -> Vec<[u16; 2]> {
+    fn records(&self) -> Vec<[W; 2]> {
         self.made
             .iter()
             .rev()
@@ -134,23 +146,29 @@ impl Links {
 }
 
 /// Below the bound, close to it half the time: bodies made of what just came.
-fn value(rng: &mut Rng, bound: usize) -> u16 {
+fn value(rng: &mut Rng, bound: usize) -> usize {
     let near = bound.min(4);
     if rng.chance(1, 2) {
-        (bound - 1 - rng.below(near)) as u16
+        bound - 1 - rng.below(near)
     } else {
-        rng.below(bound) as u16
+        rng.below(bound)
     }
 }
 
 /// A random graph's words; nearly always one that the graph check accepts.
-pub fn graph(rng: &mut Rng, scale: Scale) -> Vec<u16> {
+pub fn graph<W: Word>(rng: &mut Rng, scale: Scale) -> Vec<W> {
     let full = rng.chance(1, 8);
-    let mut size = |most: usize| if full { most } else { rng.between(0, most) };
+    let mut size = |most: usize| {
+        if full {
+            most
+        } else {
+            rng.between(scale.least, most)
+        }
+    };
     let (atoms, nodes, rules) = (size(scale.atoms), size(scale.nodes), size(scale.rules));
     let absorbed = rng.chance(1, 4);
     let mut links = Links::new(scale.links);
-    let mut draft = Draft::new(atoms as u16);
+    let mut draft = Draft::new(word(atoms));
     let mut firsts = Vec::new();
     for number in 0..nodes {
         let kind = kind(rng, atoms, number, absorbed);
@@ -159,17 +177,13 @@ pub fn graph(rng: &mut Rng, scale: Scale) -> Vec<u16> {
             _ => 0,
         };
         firsts.push(first);
-        let operand = if kind == ATOM {
-            rng.below(atoms) as u16
-        } else {
-            0
-        };
-        draft.nodes.push([kind, operand, 0]);
+        let operand = if kind == ATOM { rng.below(atoms) } else { 0 };
+        draft.nodes.push([W::from(kind), word(operand), word(0)]);
     }
     links.entries = 0;
     for _ in 0..rules {
         firsts.push(links.chain(rng, atoms, scale.list.min(4)));
-        draft.rules.push([body(rng, nodes), 0]);
+        draft.rules.push([word(body(rng, nodes)), word(0)]);
     }
     for (node, &first) in draft.nodes.iter_mut().zip(&firsts) {
         node[2] = links.number(first);
@@ -193,7 +207,7 @@ fn kind(rng: &mut Rng, atoms: usize, number: usize, absorbed: bool) -> u16 {
     }
 }
 
-fn body(rng: &mut Rng, nodes: usize) -> u16 {
+fn body(rng: &mut Rng, nodes: usize) -> usize {
     if nodes == 0 || rng.chance(1, 12) {
         0
     } else {
@@ -220,8 +234,8 @@ pub fn mask(rng: &mut Rng, count: usize) -> Vec<u64> {
 }
 
 /// Clear masks first, then random ones.
-pub fn masks(rng: &mut Rng, words: &[u16], pairs: usize) -> Vec<Masks> {
-    let [atoms, nodes] = [1, 2].map(|i| usize::from(words[i]));
+pub fn masks<W: Word>(rng: &mut Rng, words: &[W], pairs: usize) -> Vec<Masks> {
+    let [atoms, nodes] = [1, 2].map(|i| words[i].number());
     let clear = (vec![0; nodes.div_ceil(64)], vec![0; atoms.div_ceil(64)]);
     let random = (1..pairs).map(|_| (mask(rng, nodes), mask(rng, atoms)));
     std::iter::once(clear)

@@ -1,6 +1,6 @@
 //! The random graphs have what their module promises.
 
-use compare::random::{self, SCALES};
+use compare::random::{self, SCALES, WIDE_SCALES};
 use compare::rng::Rng;
 use paper::{Graph, Kind};
 
@@ -74,7 +74,7 @@ fn features_of_random_graphs() {
     let mut rng = Rng::new(3);
     let mut seen = Seen::default();
     for i in 0..3_000 {
-        seen.add(&random::graph(&mut rng, SCALES[i % 3]));
+        seen.add(&random::graph::<u16>(&mut rng, SCALES[i % 3]));
     }
     assert!(seen.least() >= 50, "{seen:?}");
 }
@@ -89,6 +89,33 @@ fn largest_random_graphs() {
     assert!(graphs.iter().all(|words| paper::check(words).is_ok()));
     assert!(graphs.iter().any(|words| words[1..4] == [1_024; 3]));
     assert!(graphs.iter().any(|words| words[4] >= 4_095));
+}
+
+/// Those of edition 2 are above edition 1's limits, and the largest fill every
+/// count; what is missing of them is neither none nor all of the marked.
+#[test]
+fn wide_random_graphs() {
+    let mut rng = Rng::new(6);
+    let mut parted = 0;
+    for _ in 0..20 {
+        let words: Vec<u32> = random::graph(&mut rng, WIDE_SCALES[0]);
+        assert!(words[1..4].iter().all(|&count| count > 1_024));
+        let graph = Graph::decode(&words).expect("accepted");
+        let Ok(prepared) = graph.prepared() else {
+            continue;
+        };
+        let (never, atom_never) = random::masks(&mut rng, &words, 2).swap_remove(1);
+        let missing = prepared.missing(&never, &atom_never);
+        let left = (0..graph.atoms).any(|a| prepared.marked[a] && !missing[a]);
+        parted += usize::from(left && missing.contains(&true));
+    }
+    assert!(parted >= 5, "{parted}");
+    let words: Vec<u32> = (0..)
+        .map(|_| random::graph(&mut rng, WIDE_SCALES[3]))
+        .find(|words: &Vec<u32>| words[1..4] == [262_144; 3])
+        .expect("one in eight");
+    assert_eq!(paper::check(&words), Ok(()));
+    assert!(words[4] > 1_000_000, "{} links", words[4]);
 }
 
 #[test]

@@ -1,6 +1,7 @@
 //! The program's text, by hand and against the calls.
 
 use compare::agree::Masks;
+use compare::calls::widened;
 use compare::cases;
 use compare::random::{self, SCALES};
 use compare::record::input;
@@ -41,6 +42,28 @@ fn texts_by_hand() {
     bad[34] = 2; // The second link's value: a head equal to A.
     assert_eq!(text(&bad), "refused 8 1\n");
     assert_eq!(text(&bad[..38]), "refused 8 1\n");
+}
+
+/// The words are of 16 bits: edition 2 is refused in them, and a file of 32-bit
+/// words is read as they are.
+#[test]
+fn texts_of_edition_2() {
+    let clear: Masks = (vec![0], vec![0]);
+    let mut narrow = C2;
+    narrow[0] = 2;
+    assert_eq!(text(&input(&narrow, &clear)), "refused 1 0\n");
+    let mut wide = widened(&C2);
+    let bytes = input(&wide, &clear);
+    assert_eq!(bytes.len(), 4 * 19 + 16);
+    assert_eq!(text(&bytes), "refused 1 0\n");
+    // Counts above edition 1's, or cut short: still 1.
+    wide[1] = 2_000;
+    assert_eq!(text(&input(&wide, &clear)), "refused 1 0\n");
+    assert_eq!(text(&bytes[..10]), "refused 1 0\n");
+    // With 1 before it: no atoms, 2 nodes, no rules, 2 links, and 8 bytes after 30.
+    let mut one = widened(&C2);
+    one[0] = 1;
+    assert_eq!(text(&input(&one, &clear)), "refused 4 0\n");
 }
 
 #[test]
@@ -84,7 +107,7 @@ fn program_agrees_with_the_calls() {
     let mut rng = Rng::new(7);
     for i in 0..4_000 {
         let scale = if i % 50 == 0 { 3 } else { i % 3 };
-        let words = random::graph(&mut rng, SCALES[scale]);
+        let words: Vec<u16> = random::graph(&mut rng, SCALES[scale]);
         let masks = random::masks(&mut rng, &words, 2).swap_remove(1);
         assert_eq!(run(&input(&words, &masks)), by_calls(&words, &masks));
     }

@@ -1,6 +1,8 @@
 //! The quick part of the comparison.
 
+use compare::calls::Word;
 use compare::cases::{self, Expected};
+use compare::random::WIDE_SCALES;
 use compare::{edges, runs};
 use oracle::{Ended, Oracle};
 
@@ -40,9 +42,8 @@ fn cases_c1_to_c12() {
     }
 }
 
-#[test]
-fn edges_of_the_table() {
-    for edge in edges::all() {
+fn edges_of<W: Word>() {
+    for edge in edges::all::<W>() {
         let found = paper::check(&edge.words).err().map(|refusal| {
             assert_eq!(refusal.places.len(), 1);
             (refusal.number, refusal.places[0])
@@ -52,8 +53,17 @@ fn edges_of_the_table() {
 }
 
 #[test]
+fn edges_of_the_table() {
+    edges_of::<u16>();
+    edges_of::<u32>();
+}
+
+#[test]
 fn largest_graphs_are_accepted() {
-    for words in edges::largest() {
+    for words in edges::largest::<u16>() {
+        assert_eq!(paper::check(&words), Ok(()));
+    }
+    for words in edges::largest::<u32>() {
         assert_eq!(paper::check(&words), Ok(()));
     }
 }
@@ -85,4 +95,21 @@ fn random_graphs() {
 #[test]
 fn damaged_copies() {
     runs::damaged(1, 0, 20_000).expect("no difference");
+}
+
+#[test]
+fn limits_of_edition_2() {
+    runs::wide_limits(1, 2).expect("no difference");
+}
+
+#[test]
+fn wide_random_graphs() {
+    for (scale, graphs) in WIDE_SCALES.into_iter().zip([30, 6, 1, 1]) {
+        runs::wide_graphs(1, scale, 0, graphs).expect("no difference");
+    }
+}
+
+#[test]
+fn wide_damaged_copies() {
+    runs::wide_damaged(1, 0, 10_000).expect("no difference");
 }

@@ -76,9 +76,13 @@ impl<'a> Reader<'a> {
         self.words(length)
     }
 
+    fn places(&mut self) -> Vec<u32> {
+        self.list().into_iter().map(u32::from).collect()
+    }
+
     /// A recorded answer with its places and, if not turned away, its output.
     fn answer(&mut self, output: usize) -> Result<Vec<u64>, Refusal> {
-        let (number, places) = (self.word() as u16, self.list());
+        let (number, places) = (self.word() as u16, self.places());
         match number {
             0 => Ok(self.wide(output)),
             _ => Err(Refusal { number, places }),
@@ -90,7 +94,7 @@ fn number_and_place<T>(answer: &Result<T, Refusal>) -> [usize; 2] {
     answer
         .as_ref()
         .err()
-        .map_or([0, 0], |r| [r.number, r.places[0]].map(usize::from))
+        .map_or([0, 0], |r| [r.number.into(), r.places[0] as usize])
 }
 
 /// A graph's calls, answered anew; how many.
@@ -128,7 +132,7 @@ fn run(reader: &mut Reader<'_>) {
     let length = reader.word() + 65_536 * reader.word();
     let report = paper::program::run(reader.padded(length));
     assert_eq!(number_and_place(&report)[0], reader.word());
-    let places = reader.list();
+    let places = reader.places();
     match &report {
         Err(refusal) if refusal.number == 12 => assert_eq!(refusal.places, places),
         _ => assert!(places.is_empty()),

@@ -1,7 +1,8 @@
 //! From the words of an accepted graph to what the stand-ins hold.
 //!
 //! Words 0 to 4 are edition, atoms, nodes, producers, links; then 3 words a
-//! node, 2 a producer, 2 a link. The words must have passed the graph check.
+//! node, 2 a producer, 2 a link; of 16 bits in edition 1 and 32 in edition 2. The
+//! words must have passed the graph check.
 
 use crate::theory::Node;
 
@@ -12,8 +13,8 @@ pub(crate) struct Decoded {
     pub(crate) producers: Vec<(Option<usize>, Vec<usize>)>,
 }
 
-pub(crate) fn decode(words: &[u16]) -> Decoded {
-    let at = |position: usize| usize::from(words[position]);
+pub(crate) fn decode<W: Copy + Into<u32>>(words: &[W]) -> Decoded {
+    let at = |position: usize| words[position].into() as usize;
     let (atoms, nodes, producers) = (at(1), at(2), at(3));
     let producers_from = 5 + 3 * nodes;
     let links_from = producers_from + 2 * producers;

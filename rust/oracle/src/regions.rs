@@ -210,7 +210,7 @@ pub struct Lists {
 impl Lists {
     /// # Panics
     /// On words that the graph check refuses.
-    pub fn new(words: &[u16]) -> Self {
+    pub fn new<W: Copy + Into<u32>>(words: &[W]) -> Self {
         let Decoded {
             atoms,
             nodes,
@@ -236,7 +236,7 @@ impl Oracle {
     ///
     /// # Panics
     /// On words that the graph check refuses.
-    pub fn new(words: &[u16]) -> Result<Self, Ended> {
+    pub fn new<W: Copy + Into<u32>>(words: &[W]) -> Result<Self, Ended> {
         Self::build(Lists::new(words))
     }
 

@@ -1,7 +1,9 @@
-//! The calls. A call skips the rows for things it isn't lent.
+//! The calls. A call skips the rows for things it isn't lent. The width of the
+//! words is that of the edition.
 
+use crate::edition::Word;
 use crate::graph::Graph;
-use crate::table::{Refusal, WORK_WORDS};
+use crate::table::Refusal;
 use crate::{mask_len, pack};
 
 /// Row 10, for each length lent and the count it stands for.
@@ -16,20 +18,25 @@ fn lengths(lent: &[(usize, usize)]) -> Result<(), Refusal> {
 }
 
 /// Row 11.
-fn work_area(length: usize) -> Result<(), Refusal> {
-    if length != WORK_WORDS {
+fn work_area<W: Word>(length: usize, graph: &Graph) -> Result<(), Refusal> {
+    if length != W::EDITION.work_words(graph) {
         return Err(Refusal::at(11, 0));
     }
     Ok(())
+}
+
+/// The words of the work area that row 11 asks for, 0 where rows 1 to 9 refuse.
+pub fn work_words<W: Word>(words: &[W]) -> usize {
+    Graph::decode(words).map_or(0, |graph| W::EDITION.work_words(&graph))
 }
 
 /// The loop test: rows 1 to 9 and 11.
 ///
 /// # Errors
 /// The first row that applies.
-pub fn needed(words: &[u16], work_len: usize) -> Result<bool, Refusal> {
+pub fn needed<W: Word>(words: &[W], work_len: usize) -> Result<bool, Refusal> {
     let graph = Graph::decode(words)?;
-    work_area(work_len)?;
+    work_area::<W>(work_len, &graph)?;
     Ok(graph.loops())
 }
 
@@ -37,10 +44,14 @@ pub fn needed(words: &[u16], work_len: usize) -> Result<bool, Refusal> {
 ///
 /// # Errors
 /// The first row that applies.
-pub fn prepare(words: &[u16], output_len: usize, work_len: usize) -> Result<Vec<u64>, Refusal> {
+pub fn prepare<W: Word>(
+    words: &[W],
+    output_len: usize,
+    work_len: usize,
+) -> Result<Vec<u64>, Refusal> {
     let graph = Graph::decode(words)?;
     lengths(&[(output_len, graph.atoms)])?;
-    work_area(work_len)?;
+    work_area::<W>(work_len, &graph)?;
     Ok(pack(&graph.prepared()?.marked))
 }
 
@@ -48,8 +59,8 @@ pub fn prepare(words: &[u16], output_len: usize, work_len: usize) -> Result<Vec<
 ///
 /// # Errors
 /// The first row that applies.
-pub fn complete(
-    words: &[u16],
+pub fn complete<W: Word>(
+    words: &[W],
     never: &[u64],
     atom_never: &[u64],
     output_len: usize,
@@ -61,6 +72,6 @@ pub fn complete(
         (atom_never.len(), graph.atoms),
         (output_len, graph.atoms),
     ])?;
-    work_area(work_len)?;
+    work_area::<W>(work_len, &graph)?;
     Ok(pack(&graph.prepared()?.missing(never, atom_never)))
 }

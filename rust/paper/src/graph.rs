@@ -1,7 +1,7 @@
 //! "The graph as lent words", decoded.
 
 use crate::table::Parts;
-use crate::{Refusal, check};
+use crate::{Refusal, Word, check};
 
 #[derive(Clone, Copy, Debug, PartialEq, Eq)]
 pub enum Kind {
@@ -17,21 +17,22 @@ pub enum Kind {
 }
 
 /// A condition; its leaves are below its own number.
-#[derive(Clone, Debug)]
+#[derive(Clone, Debug, PartialEq, Eq)]
 pub struct Node {
     pub kind: Kind,
     pub leaves: Vec<usize>,
 }
 
 /// A rule; one without a body is a fact.
-#[derive(Clone, Debug)]
+#[derive(Clone, Debug, PartialEq, Eq)]
 pub struct Rule {
     pub body: Option<usize>,
     pub heads: Vec<usize>,
 }
 
-/// An accepted graph: its states, conditions and rules.
-#[derive(Clone, Debug)]
+/// An accepted graph's content: its states, conditions and rules. Nothing of it
+/// tells the edition or how the links are numbered.
+#[derive(Clone, Debug, Default, PartialEq, Eq)]
 pub struct Graph {
     pub atoms: usize,
     pub nodes: Vec<Node>,
@@ -41,7 +42,7 @@ pub struct Graph {
 impl Graph {
     /// # Errors
     /// As [`check`] turns the words away.
-    pub fn decode(words: &[u16]) -> Result<Self, Refusal> {
+    pub fn decode<W: Word>(words: &[W]) -> Result<Self, Refusal> {
         check(words)?;
         let parts = Parts::of(words);
         let node = |c: usize| Node {
@@ -57,6 +58,14 @@ impl Graph {
             nodes: (0..parts.n).map(node).collect(),
             rules: (0..parts.p).map(rule).collect(),
         })
+    }
+
+    pub fn leaf_entries(&self) -> usize {
+        self.nodes.iter().map(|node| node.leaves.len()).sum()
+    }
+
+    pub fn head_entries(&self) -> usize {
+        self.rules.iter().map(|rule| rule.heads.len()).sum()
     }
 }
 

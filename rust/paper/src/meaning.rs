@@ -2,7 +2,11 @@
 
 use crate::closure::Reach;
 use crate::graph::{Graph, Kind};
-use crate::{Refusal, is_cut};
+use crate::{Refusal, is_cut, large};
+
+/// States and conditions up to which closed chains and support are found in the
+/// slow, plain ways; no graph of edition 1 has more.
+const MOST_VERTICES: usize = 2_048;
 
 /// The four row tables: entries in input order, repeats kept.
 #[derive(Clone, Debug, PartialEq, Eq)]
@@ -25,42 +29,35 @@ pub struct Prepared<'a> {
 
 impl Graph {
     pub fn rows(&self) -> Rows {
-        let row = |owners: &[Vec<usize>], key: usize| -> Vec<usize> {
-            let entries = owners.iter().enumerate().flat_map(|(owner, keys)| {
-                keys.iter().filter(move |k| **k == key).map(move |_| owner)
-            });
-            entries.collect()
+        let mut rows = Rows {
+            conditions_per_state: vec![vec![]; self.atoms],
+            parents_per_condition: vec![vec![]; self.nodes.len()],
+            rules_per_head: vec![vec![]; self.atoms],
+            rules_per_body: vec![vec![]; self.nodes.len()],
         };
-        let named: Vec<Vec<usize>> = self
-            .nodes
-            .iter()
-            .map(|node| match node.kind {
-                Kind::Atom(atom) => vec![atom],
-                _ => vec![],
-            })
-            .collect();
-        let leaves: Vec<_> = self.nodes.iter().map(|node| node.leaves.clone()).collect();
-        let heads: Vec<_> = self.rules.iter().map(|rule| rule.heads.clone()).collect();
-        let bodies: Vec<Vec<usize>> = self
-            .rules
-            .iter()
-            .map(|rule| Vec::from_iter(rule.body))
-            .collect();
-        let table =
-            |rows: usize, owners: &[Vec<usize>]| (0..rows).map(|key| row(owners, key)).collect();
-        Rows {
-            conditions_per_state: table(self.atoms, &named),
-            parents_per_condition: table(self.nodes.len(), &leaves),
-            rules_per_head: table(self.atoms, &heads),
-            rules_per_body: table(self.nodes.len(), &bodies),
+        for (c, node) in self.nodes.iter().enumerate() {
+            if let Kind::Atom(atom) = node.kind {
+                rows.conditions_per_state[atom].push(c);
+            }
+            for &leaf in &node.leaves {
+                rows.parents_per_condition[leaf].push(c);
+            }
         }
+        for (r, rule) in self.rules.iter().enumerate() {
+            for &head in &rule.heads {
+                rows.rules_per_head[head].push(r);
+            }
+            if let Some(body) = rule.body {
+                rows.rules_per_body[body].push(r);
+            }
+        }
+        rows
     }
 
     /// The loop test: all states and all conditions, some closed chain.
     pub fn loops(&self) -> bool {
         let all = vec![true; self.nodes.len()];
-        let reach = self.reach(&all);
-        (0..self.atoms + self.nodes.len()).any(|vertex| reach.closed(vertex))
+        self.closed(&all).contains(&true)
     }
 
     /// The bodies of rules with at least one head, and the leaves of every And
@@ -90,15 +87,15 @@ impl Graph {
     pub fn prepared(&self) -> Result<Prepared<'_>, Refusal> {
         let cone = self.first_cone();
         let absorbed = |c: &usize| cone[*c] && self.nodes[*c].kind == Kind::Absorbed;
-        let places: Vec<u16> = (0..self.nodes.len())
+        let places: Vec<u32> = (0..self.nodes.len())
             .filter(absorbed)
-            .map(|c| c as u16)
+            .map(|c| c as u32)
             .collect();
         if !places.is_empty() {
             return Err(Refusal { number: 12, places });
         }
-        let reach = self.reach(&cone);
-        let marked = (0..self.atoms).map(|atom| reach.closed(atom)).collect();
+        let mut marked = self.closed(&cone);
+        marked.truncate(self.atoms);
         Ok(Prepared {
             graph: self,
             cone,
@@ -106,15 +103,31 @@ impl Graph {
         })
     }
 
-    /// Walks among all states and the conditions of `within`; condition c is
-    /// vertex atoms + c.
+    /// All states and all conditions; condition c is vertex atoms + c.
+    pub(crate) fn vertices(&self) -> usize {
+        self.atoms + self.nodes.len()
+    }
+
+    /// Which vertices are on a closed chain among all states and the conditions
+    /// of `within`.
+    fn closed(&self, within: &[bool]) -> Vec<bool> {
+        if self.vertices() > MOST_VERTICES {
+            return large::closed(self, within);
+        }
+        let reach = self.reach(within);
+        (0..self.vertices())
+            .map(|vertex| reach.closed(vertex))
+            .collect()
+    }
+
+    /// Walks among all states and the conditions of `within`.
     fn reach(&self, within: &[bool]) -> Reach {
-        Reach::new(self.atoms + self.nodes.len(), &self.edges(within))
+        Reach::new(self.vertices(), &self.edges(within))
     }
 
     /// State to each Atom condition naming it; leaf to its And or Or; body to
     /// each head.
-    fn edges(&self, within: &[bool]) -> Vec<(usize, usize)> {
+    pub(crate) fn edges(&self, within: &[bool]) -> Vec<(usize, usize)> {
         let vertex = |c: usize| self.atoms + c;
         let mut edges = Vec::new();
         for (c, node) in self.nodes.iter().enumerate().filter(|(c, _)| within[*c]) {
@@ -141,17 +154,23 @@ impl Graph {
 /// more than one vertex.
 pub fn marked_by_components(prepared: &Prepared<'_>) -> Vec<bool> {
     let graph = prepared.graph;
+    if graph.vertices() > MOST_VERTICES {
+        let sizes = large::component_sizes(graph, &prepared.cone);
+        return sizes[..graph.atoms].iter().map(|&size| size > 1).collect();
+    }
     let reach = graph.reach(&prepared.cone);
-    let vertices = graph.atoms + graph.nodes.len();
     let both_ways = |a: usize, v: usize| reach.leads(a, v) && reach.leads(v, a);
     (0..graph.atoms)
-        .map(|a| (0..vertices).any(|v| v != a && both_ways(a, v)))
+        .map(|a| (0..graph.vertices()).any(|v| v != a && both_ways(a, v)))
         .collect()
 }
 
 impl Prepared<'_> {
     /// The least set closed under the two rules, by naive iteration.
     pub fn supported(&self, never: &[u64], atom_never: &[u64]) -> Vec<bool> {
+        if self.graph.vertices() > MOST_VERTICES {
+            return large::supported(self, never, atom_never);
+        }
         let mut supported = vec![false; self.graph.atoms];
         loop {
             let before = supported.clone();

@@ -1,4 +1,5 @@
-//! "The program": from standard input's bytes to the text.
+//! "The program": from standard input's bytes to the text. Its words are of 16
+//! bits, so that a graph of edition 2 is refused by its number.
 
 use crate::graph::Graph;
 use crate::mask_len;

@@ -1,25 +1,21 @@
-//! "Where a call is turned away": the table's rows, in its order.
+//! "Where a call is turned away": the table's rows, in its order. 1, 2, 9 and 11
+//! read the edition's numbers.
 
-/// The length of the work area, in 16-bit words.
-pub const WORK_WORDS: usize = 32_768;
-
-const MOST: usize = 1_024;
-const MOST_LINKS: usize = 4_096;
-const MOST_ENTRIES: usize = 4_096;
+use crate::edition::{Edition, Word};
 
 /// A call turned away: the row's number and each place it may return. Only 12
 /// can have several, ascending.
 #[derive(Clone, Debug, PartialEq, Eq)]
 pub struct Refusal {
     pub number: u16,
-    pub places: Vec<u16>,
+    pub places: Vec<u32>,
 }
 
 impl Refusal {
     pub(crate) fn at(number: u16, place: usize) -> Self {
         Self {
             number,
-            places: vec![place.try_into().expect("a place is a word")],
+            places: vec![place.try_into().expect("a place is 32 bits")],
         }
     }
 }
@@ -28,7 +24,7 @@ impl Refusal {
 ///
 /// # Errors
 /// The first row of the table that applies.
-pub fn check(words: &[u16]) -> Result<(), Refusal> {
+pub fn check<W: Word>(words: &[W]) -> Result<(), Refusal> {
     header(words)?;
     length(words)?;
     let parts = Parts::of(words);
@@ -49,31 +45,38 @@ pub fn check(words: &[u16]) -> Result<(), Refusal> {
     )?;
     let leaf_entries: usize = (0..parts.n).map(|c| parts.leaves(c).count()).sum();
     let head_entries: usize = (0..parts.p).map(|r| parts.heads(r).count()).sum();
-    if leaf_entries > MOST_ENTRIES || head_entries > MOST_ENTRIES {
+    let most = W::EDITION.entries;
+    if leaf_entries > most || head_entries > most {
         return Err(Refusal::at(9, 0));
     }
     Ok(())
 }
 
 /// Rows 1 and 2, which the header alone decides.
-pub(crate) fn header(words: &[u16]) -> Result<(), Refusal> {
-    if words.len() < 5 || words[0] != 1 {
+pub(crate) fn header<W: Word>(words: &[W]) -> Result<(), Refusal> {
+    let Edition {
+        number,
+        counts,
+        links,
+        ..
+    } = W::EDITION;
+    if words.len() < 5 || words[0].into() != number {
         return Err(Refusal::at(1, 0));
     }
     let Parts { a, n, p, k, .. } = Parts::of(words);
-    if a > MOST || n > MOST || p > MOST || k > MOST_LINKS {
+    if a > counts || n > counts || p > counts || k > links {
         return Err(Refusal::at(2, 0));
     }
     Ok(())
 }
 
 /// How many words the header says the graph has.
-pub(crate) fn sized(words: &[u16]) -> usize {
+pub(crate) fn sized<W: Word>(words: &[W]) -> usize {
     let Parts { n, p, k, .. } = Parts::of(words);
     5 + 3 * n + 2 * p + 2 * k
 }
 
-fn length(words: &[u16]) -> Result<(), Refusal> {
+fn length<W: Word>(words: &[W]) -> Result<(), Refusal> {
     if words.len() != sized(words) {
         return Err(Refusal::at(3, 0));
     }
@@ -82,22 +85,22 @@ fn length(words: &[u16]) -> Result<(), Refusal> {
 
 /// The words of a graph by their records.
 #[derive(Clone, Copy)]
-pub(crate) struct Parts<'a> {
-    words: &'a [u16],
+pub(crate) struct Parts<'a, W> {
+    words: &'a [W],
     pub(crate) a: usize,
     pub(crate) n: usize,
     pub(crate) p: usize,
     pub(crate) k: usize,
 }
 
-impl<'a> Parts<'a> {
-    pub(crate) fn of(words: &'a [u16]) -> Self {
-        let [a, n, p, k] = [1, 2, 3, 4].map(|i| usize::from(words[i]));
+impl<'a, W: Word> Parts<'a, W> {
+    pub(crate) fn of(words: &'a [W]) -> Self {
+        let [a, n, p, k] = [1, 2, 3, 4].map(|i| words[i].number());
         Self { words, a, n, p, k }
     }
 
     fn word(&self, position: usize) -> usize {
-        usize::from(self.words[position])
+        self.words[position].number()
     }
 
     /// Kind, operand, first link.

@@ -2,14 +2,16 @@
 //!
 //! Feeds PROGRAM, which is `founded_support` as `rt check` builds it, with C1 to
 //! C12, the limits, COUNT random graphs and a damaged copy of each, all with
-//! random masks, and holds what it prints to `paper`'s text. Of a 12 any of the
-//! places will do. It ends with 1 at the first difference.
+//! random masks; then graphs of edition 2, also in files of 32-bit words; and
+//! holds what it prints to `paper`'s text. Of a 12 any of the places will do. It
+//! ends with 1 at the first difference.
 
 use std::io::Write;
 use std::process::{Command, ExitCode, Stdio};
 
 use compare::agree::Masks;
-use compare::random::{self, SCALES};
+use compare::calls::{Word, widened};
+use compare::random::{self, SCALES, WIDE_SCALES};
 use compare::rng::Rng;
 use compare::{cases, damage, edges, record};
 
@@ -45,21 +47,30 @@ struct Tally {
 
 fn all(program: &str, seed: u64, count: u64, tally: &mut Tally) -> Result<(), String> {
     for case in cases::all() {
-        run(
-            program,
-            &record::input(&case.content.words(), &case.masks()),
-            tally,
-        )?;
+        let words = case.content.words();
+        run(program, &record::input(&words, &case.masks()), tally)?;
+        edition_2(program, &words, &case.masks(), tally)?;
     }
     let mut rng = Rng::new(seed);
     let limits = edges::all().into_iter().map(|edge| edge.words);
     for words in limits.chain(edges::largest()) {
+        run(program, &masked::<u16>(&mut rng, &words), tally)?;
+    }
+    for edge in edges::all::<u32>() {
+        run(program, &masked(&mut rng, &edge.words), tally)?;
+    }
+    for scale in WIDE_SCALES {
+        let words: Vec<u32> = random::graph(&mut rng, scale);
         run(program, &masked(&mut rng, &words), tally)?;
     }
     for i in 0..count {
         let scale = if i % 100 == 99 { 5 } else { (i % 5) as usize };
-        let words = random::graph(&mut rng, SCALES[scale]);
+        let words: Vec<u16> = random::graph(&mut rng, SCALES[scale]);
         run(program, &masked(&mut rng, &words), tally)?;
+        if i % 10 == 0 {
+            let masks = random::masks(&mut rng, &words, 2).swap_remove(1);
+            edition_2(program, &words, &masks, tally)?;
+        }
         let damaged = damage::copy(&mut rng, &words);
         let mut bytes = masked(&mut rng, &damaged);
         if rng.chance(1, 4) {
@@ -70,8 +81,20 @@ fn all(program: &str, seed: u64, count: u64, tally: &mut Tally) -> Result<(), St
     Ok(())
 }
 
+/// A graph of edition 1 as one of edition 2, in 16-bit words and in 32-bit words,
+/// and in 32-bit words that begin with 1.
+fn edition_2(program: &str, words: &[u16], masks: &Masks, tally: &mut Tally) -> Result<(), String> {
+    let mut narrow = words.to_vec();
+    narrow[0] = 2;
+    run(program, &record::input(&narrow, masks), tally)?;
+    let mut wide = widened(words);
+    run(program, &record::input(&wide, masks), tally)?;
+    wide[0] = 1;
+    run(program, &record::input(&wide, masks), tally)
+}
+
 /// Standard input for the words, with masks where the graph is accepted.
-fn masked(rng: &mut Rng, words: &[u16]) -> Vec<u8> {
+fn masked<W: Word>(rng: &mut Rng, words: &[W]) -> Vec<u8> {
     let masks: Masks = match paper::check(words) {
         Ok(()) => random::masks(rng, words, 2).pop().unwrap_or_default(),
         Err(_) => Masks::default(),

@@ -16,7 +16,7 @@ pub(super) fn write(recording: &mut Recording) {
         recording.graph(&words, &usual(&words, &[case.masks()]));
     }
     let mut rng = Rng::new(super::SEED);
-    for edge in edges::all() {
+    for edge in edges::all::<u16>() {
         let pairs = if paper::check(&edge.words).is_ok() {
             2
         } else {
@@ -119,7 +119,7 @@ fn lengths(recording: &mut Recording) {
         rules: vec![],
     };
     recording.graph(&full.words(), &around(&full.words()));
-    let small = |edge: &edges::Edge| edge.refusal.is_some() && edge.words.len() < 60;
+    let small = |edge: &edges::Edge<u16>| edge.refusal.is_some() && edge.words.len() < 60;
     for edge in edges::all().iter().filter(|edge| small(edge)).step_by(3) {
         recording.graph(&edge.words, &around(&edge.words));
     }
@@ -165,13 +165,13 @@ fn absorbed(recording: &mut Recording, rng: &mut Rng) {
 fn samples(recording: &mut Recording, rng: &mut Rng) {
     for (scale, graphs) in [(0, 250), (1, 300), (2, 250), (3, 50), (4, 12), (5, 12)] {
         for _ in 0..graphs {
-            let words = random::graph(rng, SCALES[scale]);
+            let words: Vec<u16> = random::graph(rng, SCALES[scale]);
             let masks = random::masks(rng, &words, 5);
             recording.graph(&words, &usual(&words, &masks));
         }
     }
     for i in 0..400 {
-        let whole = random::graph(rng, SCALES[i % 3]);
+        let whole: Vec<u16> = random::graph(rng, SCALES[i % 3]);
         let words = damage::copy(rng, &whole);
         let masks = lent(rng, &words, 2);
         recording.graph(&words, &usual(&words, &masks));

@@ -2,14 +2,15 @@
 
 use super::writer::Recording;
 use crate::agree::Masks;
+use crate::calls::Word;
 use crate::content::{ATOM, Content, node, rule};
 use crate::random::{self, SCALES};
 use crate::rng::Rng;
 use crate::{cases, damage, edges};
 
 /// Standard input: graph, atom mask, node mask.
-pub fn input(words: &[u16], (never, atom_never): &Masks) -> Vec<u8> {
-    let mut bytes: Vec<u8> = words.iter().flat_map(|word| word.to_le_bytes()).collect();
+pub fn input<W: Word>(words: &[W], (never, atom_never): &Masks) -> Vec<u8> {
+    let mut bytes: Vec<u8> = words.iter().flat_map(|word| word.bytes()).collect();
     bytes.extend(
         atom_never
             .iter()
@@ -88,13 +89,13 @@ fn cut_and_stray(recording: &mut Recording) {
 fn samples(recording: &mut Recording, rng: &mut Rng) {
     for (scale, graphs) in [(0, 60), (1, 80), (2, 60), (3, 15), (4, 3), (5, 2)] {
         for _ in 0..graphs {
-            let words = random::graph(rng, SCALES[scale]);
+            let words: Vec<u16> = random::graph(rng, SCALES[scale]);
             let masks = random::masks(rng, &words, 2).swap_remove(1);
             recording.run(&input(&words, &masks));
         }
     }
     for i in 0..120 {
-        let words = random::graph(rng, SCALES[i % 3]);
+        let words: Vec<u16> = random::graph(rng, SCALES[i % 3]);
         let whole = with_clear_masks(&damage::copy(rng, &words));
         let length = if rng.chance(1, 3) {
             rng.between(0, whole.len())

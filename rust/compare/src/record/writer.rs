@@ -149,16 +149,14 @@ impl Recording {
             answer
                 .as_ref()
                 .err()
-                .map_or(0, |refusal| usize::from(refusal.places[0])),
+                .map_or(0, |refusal| refusal.places[0] as usize),
         );
     }
 
     /// A count of places, and the places.
-    fn places(&mut self, places: &[u16]) {
+    fn places(&mut self, places: &[u32]) {
         self.word(places.len());
-        places
-            .iter()
-            .for_each(|&place| self.word(usize::from(place)));
+        places.iter().for_each(|&place| self.word(place as usize));
     }
 
     /// Number, all places, and the output if not turned away.
