@@ -1,21 +1,31 @@
-//! Graphs with as many nodes and producers as atoms and 4 entries a record.
+//! Graphs with as many nodes and producers as atoms and 4 entries a record, in
+//! either edition.
 //!
 //! The lower half of the nodes are Atoms, the upper half And or Or with 8
 //! leaves. The heads of a producer are the last 4 links of some leaf chain:
 //! with 8 entries a node and 4 a producer in links of their own, the largest
-//! graph would have too many. So a head is below half the atoms.
+//! graph would have too many. So a head is below half the atoms. The largest
+//! graph of an edition has as many atoms, nodes, producers, links, leaf entries
+//! and head entries as the edition allows.
 
-use compare::content::{AND, ATOM, Draft, OR};
 use compare::rng::Rng;
 
-/// A = N = P.
+use crate::word::Word;
+
+/// A = N = P, in either edition.
 pub const SIZES: [usize; 4] = [16, 64, 256, 1_024];
 
+/// A = N = P in edition 2 alone, from the largest of edition 1 to its own.
+pub const WIDE_SIZES: [usize; 5] = [1_024, 4_096, 16_384, 65_536, 262_144];
+
+/// 32-bit words for each atom in the graph and in the work area.
+pub const WIDE_WORDS: usize = (3 + 2 + 2 * 4) + (16 * 3 + 4 * (4 + 4));
+
 /// Graphs of one size, with or without loops.
-pub struct Input {
+pub struct Input<W> {
     pub size: usize,
     pub loops: bool,
-    pub graphs: Vec<Vec<u16>>,
+    pub graphs: Vec<Vec<W>>,
     /// Vertices and edges of the loop test, over all graphs.
     pub parts: usize,
 }
@@ -25,18 +35,17 @@ pub struct Input {
 /// again and again, and as many large ones do not.
 const ATOMS: usize = 8 * 1_024;
 
-/// Every size, without loops and with: so many graphs of each, or as many as
-/// have [`ATOMS`].
-pub fn all(graphs: Option<usize>) -> Vec<Input> {
-    let each = |size: usize| {
-        let graphs = graphs.unwrap_or(ATOMS / size);
-        [false, true].map(|loops| input(size, loops, graphs))
-    };
+/// Every size, without loops and with.
+pub fn all<W: Word>(graphs: Option<usize>) -> Vec<Input<W>> {
+    let each = |size: usize| [false, true].map(|loops| input(size, loops, graphs));
     SIZES.into_iter().flat_map(each).collect()
 }
 
-fn input(size: usize, loops: bool, graphs: usize) -> Input {
-    let graphs: Vec<Vec<u16>> = (0..graphs as u64)
+/// So many graphs of a size, or as many as have [`ATOMS`]. Both editions have
+/// the same content.
+pub fn input<W: Word>(size: usize, loops: bool, graphs: Option<usize>) -> Input<W> {
+    let graphs = graphs.unwrap_or((ATOMS / size).max(1)) as u64;
+    let graphs: Vec<Vec<W>> = (0..graphs)
         .map(|number| graph(&mut Rng::new(number), size, loops))
         .collect();
     let parts = graphs.iter().map(|words| parts(words)).sum();
@@ -48,12 +57,17 @@ fn input(size: usize, loops: bool, graphs: usize) -> Input {
     }
 }
 
+/// Kinds by document 01's numbers.
+const ATOM: usize = 1;
+const AND: usize = 2;
+const OR: usize = 3;
+
 /// One in so many producers is a fact.
 const FACTS: usize = 16;
 
-fn graph(rng: &mut Rng, size: usize, loops: bool) -> Vec<u16> {
+fn graph<W: Word>(rng: &mut Rng, size: usize, loops: bool) -> Vec<W> {
     let half = size / 2;
-    let mut draft = Draft::new(size as u16);
+    let mut words = vec![W::EDITION, size, size, size, 8 * half];
     for node in 0..half {
         // Heads are below half. Without loops no Atom names one of those; with
         // loops every other Atom does.
@@ -62,15 +76,18 @@ fn graph(rng: &mut Rng, size: usize, loops: bool) -> Vec<u16> {
         } else {
             half + node
         };
-        draft.nodes.push([ATOM, named as u16, 0]);
+        words.extend([ATOM, named, 0]);
     }
+    let mut links = Vec::new();
     for node in half..size {
-        let leaves: Vec<u16> = (0..8)
-            .map(|entry| rng.below(if entry < 4 { node } else { half }) as u16)
-            .collect();
+        let first = links.len() + 1;
+        for entry in 0..8 {
+            let leaf = rng.below(if entry < 4 { node } else { half });
+            let next = if entry < 7 { first + entry + 1 } else { 0 };
+            links.push([leaf, next]);
+        }
         let kind = if rng.chance(1, 2) { AND } else { OR };
-        let first = draft.chain(&leaves);
-        draft.nodes.push([kind, 0, first]);
+        words.extend([kind, 0, first]);
     }
     for producer in 0..size {
         let body = if producer % FACTS == 0 {
@@ -79,15 +96,16 @@ fn graph(rng: &mut Rng, size: usize, loops: bool) -> Vec<u16> {
             1 + rng.below(size)
         };
         let heads = 8 * rng.below(half) + 5;
-        draft.rules.push([body as u16, heads as u16]);
+        words.extend([body, heads]);
     }
-    draft.words()
+    words.extend(links.iter().flatten());
+    words.into_iter().map(W::of).collect()
 }
 
 /// Atoms and nodes; an edge for each Atom, each leaf and each head under a body.
-fn parts(words: &[u16]) -> usize {
-    let (size, half) = (usize::from(words[1]), usize::from(words[1]) / 2);
+fn parts<W: Word>(words: &[W]) -> usize {
+    let (size, half) = (words[1].number(), words[1].number() / 2);
     let producers = words[5 + 3 * size..].chunks(2).take(size);
-    let bodies = producers.filter(|record| record[0] != 0).count();
+    let bodies = producers.filter(|record| record[0].number() != 0).count();
     2 * size + half + 8 * half + 4 * bodies
 }

@@ -1,18 +1,85 @@
-//! `bench [--bars] [--plot FILE] [--rounds COUNT] [--graphs COUNT]`: times and
-//! ratios as tables.
+//! `bench [--bars] [--plot FILE] [--plot-wide FILE] [--rounds COUNT] [--graphs COUNT] [--part PART]`:
+//! times and ratios as tables.
 //!
-//! With `--bars` it ends with 1 if a bar does not hold; with `--plot` it writes
-//! the picture; with `--graphs` there are so many graphs of each size.
+//! The parts are `narrow` (edition 1 against the Rust), `editions` (edition 2
+//! against edition 1 on the same content) and `scale` (edition 2 against the
+//! Rust, up to its largest graph); without `--part` all are run. With `--bars` it
+//! ends with 1 if a bar does not hold; with `--plot` it writes the picture of
+//! `narrow`, with `--plot-wide` that of `scale`; with `--graphs` there are so many
+//! graphs of each size of edition 1.
 
 use std::process::ExitCode;
 
-use bench::{inputs, measure, plot, report};
+use bench::measure::{EDITION_1, THEORY};
+use bench::report::Bar;
+use bench::{caches, inputs, measure, plot, report};
+
+const USAGE: &str = "bench [--bars] [--plot FILE] [--plot-wide FILE] [--rounds COUNT] [--graphs COUNT] \
+                     [--part narrow|editions|scale]";
 
 struct Asked {
     bars: bool,
     plot: Option<String>,
+    plot_wide: Option<String>,
     rounds: usize,
     graphs: Option<usize>,
+    part: Option<Part>,
+}
+
+#[derive(Clone, Copy, PartialEq, Eq)]
+enum Part {
+    Narrow,
+    Editions,
+    Scale,
+}
+
+impl Part {
+    const ALL: [Self; 3] = [Self::Narrow, Self::Editions, Self::Scale];
+
+    fn of(word: &str) -> Option<Self> {
+        match word {
+            "narrow" => Some(Self::Narrow),
+            "editions" => Some(Self::Editions),
+            "scale" => Some(Self::Scale),
+            _ => None,
+        }
+    }
+
+    /// Tables are printed, pictures written; the bars are for the end.
+    fn run(self, asked: &Asked) -> std::io::Result<Vec<Bar>> {
+        let draw = |file: &Option<String>, svg: &dyn Fn() -> String| {
+            file.as_ref()
+                .map_or(Ok(()), |file| std::fs::write(file, svg()))
+        };
+        match self {
+            Self::Narrow => {
+                let measured = measure::all(&inputs::all::<u16>(asked.graphs), asked.rounds);
+                println!("Edition 1 against the Rust\n");
+                println!("{}", report::times(&measured, THEORY));
+                println!("{}", report::parts(&measured));
+                println!("{}", report::befores(&measured));
+                draw(&asked.plot, &|| plot::svg(&measured))?;
+                Ok(report::bars(&measured))
+            }
+            Self::Editions => {
+                let measured = measure::editions(asked.graphs, asked.rounds);
+                println!("Edition 2 against edition 1 on the same content\n");
+                println!("{}", report::times(&measured, EDITION_1));
+                Ok(report::edition_bars(&measured))
+            }
+            Self::Scale => {
+                let measured = measure::scale(asked.rounds);
+                let caches = caches::all();
+                println!("Edition 2 against the Rust\n");
+                println!("{}", report::times(&measured, THEORY));
+                println!("{}", report::parts(&measured));
+                println!("{}", report::befores(&measured));
+                println!("{}", report::caches(&caches));
+                draw(&asked.plot_wide, &|| plot::wide(&measured, &caches))?;
+                Ok(report::scale_bars(&measured))
+            }
+        }
+    }
 }
 
 fn count(word: Option<String>) -> Option<usize> {
@@ -23,16 +90,20 @@ fn asked() -> Option<Asked> {
     let mut asked = Asked {
         bars: false,
         plot: None,
+        plot_wide: None,
         rounds: 1_000,
         graphs: None,
+        part: None,
     };
     let mut words = std::env::args().skip(1);
     while let Some(word) = words.next() {
         match word.as_str() {
             "--bars" => asked.bars = true,
             "--plot" => asked.plot = Some(words.next()?),
+            "--plot-wide" => asked.plot_wide = Some(words.next()?),
             "--rounds" => asked.rounds = count(words.next())?,
             "--graphs" => asked.graphs = Some(count(words.next())?),
+            "--part" => asked.part = Some(Part::of(&words.next()?)?),
             _ => return None,
         }
     }
@@ -41,18 +112,25 @@ fn asked() -> Option<Asked> {
 
 fn main() -> ExitCode {
     let Some(asked) = asked() else {
-        eprintln!("bench [--bars] [--plot FILE] [--rounds COUNT] [--graphs COUNT]");
+        eprintln!("{USAGE}");
         return ExitCode::from(2);
     };
     if cfg!(debug_assertions) {
         eprintln!("the Rust is measured with its checks on: use --profile speed");
     }
-    let measured = measure::all(&inputs::all(asked.graphs), asked.rounds);
-    println!("{}", report::times(&measured));
-    println!("{}", report::parts(&measured));
-    println!("{}", report::befores(&measured));
-    let mut held = true;
-    for bar in report::bars(&measured) {
+    let mut bars = Vec::new();
+    for part in Part::ALL {
+        if asked.part.is_none_or(|one| one == part) {
+            match part.run(&asked) {
+                Ok(more) => bars.extend(more),
+                Err(error) => {
+                    eprintln!("a picture was not written: {error}");
+                    return ExitCode::from(2);
+                }
+            }
+        }
+    }
+    for bar in &bars {
         let says = if bar.holds() {
             "holds"
         } else {
@@ -62,15 +140,8 @@ fn main() -> ExitCode {
             "{}: {:.2}, at most {:.2}: {says}",
             bar.what, bar.figure, bar.most
         );
-        held &= bar.holds();
     }
-    if let Some(file) = asked.plot
-        && let Err(error) = std::fs::write(&file, plot::svg(&measured))
-    {
-        eprintln!("{file}: {error}");
-        return ExitCode::from(2);
-    }
-    if asked.bars && !held {
+    if asked.bars && !bars.iter().all(Bar::holds) {
         return ExitCode::FAILURE;
     }
     ExitCode::SUCCESS

@@ -1,29 +1,40 @@
 //! Rounds of all sides in turn.
 
+use std::cell::RefCell;
 use std::hint::black_box;
+use std::rc::Rc;
 use std::time::{Duration, Instant};
 
-use crate::inputs::Input;
+use crate::inputs::{self, Input, WIDE_SIZES};
 use crate::sides::{Before, Call, Ours, Theirs};
+use crate::word::Word;
 
 /// One call on one input.
-///
-/// Of the Rust there are three times, one for each [`Before`], in its order.
 pub struct Measured {
     pub size: usize,
     pub loops: bool,
     pub call: Call,
     /// The best round, in nanoseconds a call.
     pub ours: f64,
-    pub theirs: [f64; 3],
-    /// Our time by theirs, of each round: lower quartile, median, upper quartile.
-    pub ratios: [[f64; 3]; 3],
+    /// What ours is held to: the Rust three times, once for each [`Before`] in
+    /// its order, or edition 1 alone.
+    pub others: Vec<Other>,
     /// Vertices and edges of a graph, on average.
     pub parts: f64,
 }
 
+pub struct Other {
+    /// The best round, in nanoseconds a call.
+    pub best: f64,
+    /// Our time by this, of each round: lower quartile, median, upper quartile.
+    pub ratios: [f64; 3],
+}
+
 /// The time of the Rust that the ratio and the bars are about.
 pub const THEORY: usize = Before::Theory as usize;
+
+/// Where edition 2 is held to edition 1.
+pub const EDITION_1: usize = 0;
 
 /// About how long each side is timed in a round: short, so that few rounds are
 /// disturbed, and at least one call.
@@ -35,87 +46,105 @@ fn clock() -> Duration {
     pairs.min().unwrap_or_default()
 }
 
+/// The time of a call on one of the graphs, by its number.
+type Side<'a> = Box<dyn FnMut(usize) -> Duration + 'a>;
+
+fn ours<W: Word>(input: &Input<W>, call: Call) -> Side<'_> {
+    let mut ours = Ours::new(&input.graphs[0]);
+    for graph in &input.graphs {
+        ours.answer(call, graph);
+    }
+    Box::new(move |number| {
+        let graph = black_box(&input.graphs[number]);
+        let start = Instant::now();
+        black_box(ours.run(call, graph));
+        start.elapsed()
+    })
+}
+
+/// The Rust, by what is made before the call.
+fn theirs<W: Word>(input: &Input<W>, call: Call) -> [Side<'_>; 3] {
+    let graphs = input.graphs.iter();
+    let theirs: Vec<Theirs> = graphs.map(|graph| Theirs::new(graph)).collect();
+    let theirs = Rc::new(RefCell::new(theirs));
+    Before::ALL.map(|before| -> Side<'_> {
+        let theirs = Rc::clone(&theirs);
+        Box::new(move |number| {
+            let graph = black_box(&input.graphs[number]);
+            theirs.borrow_mut()[number].run(call, graph, before, |run| {
+                let start = Instant::now();
+                black_box(run());
+                start.elapsed()
+            })
+        })
+    })
+}
+
 struct Bench<'a> {
-    input: &'a Input,
-    call: Call,
-    ours: Ours,
-    theirs: Vec<Theirs>,
+    /// Without times.
+    measured: Measured,
+    /// Ours first.
+    sides: Vec<Side<'a>>,
+    graphs: usize,
     clock: Duration,
     /// Calls of each side in a round.
     calls: usize,
-    /// Our time, then those of the Rust.
-    rounds: Vec<[f64; 4]>,
+    /// A time for each side.
+    rounds: Vec<Vec<f64>>,
 }
 
 impl<'a> Bench<'a> {
-    fn new(input: &'a Input, call: Call, clock: Duration) -> Self {
-        let graphs = input.graphs.iter();
+    /// Our call on an input, held to others.
+    fn new<W: Word>(
+        input: &'a Input<W>,
+        call: Call,
+        others: impl IntoIterator<Item = Side<'a>>,
+        clock: Duration,
+    ) -> Self {
+        let graphs = input.graphs.len();
         let mut bench = Self {
-            input,
-            call,
-            ours: Ours::new(input.size),
-            theirs: graphs.map(|graph| Theirs::new(graph)).collect(),
+            measured: Measured {
+                size: input.size,
+                loops: input.loops,
+                call,
+                ours: f64::INFINITY,
+                others: vec![],
+                parts: input.parts as f64 / graphs as f64,
+            },
+            sides: std::iter::once(ours(input, call)).chain(others).collect(),
+            graphs,
             clock,
-            calls: input.graphs.len(),
+            calls: graphs,
             rounds: vec![],
         };
-        let once = bench.ours(0);
+        let once = bench.time(0, 0);
         bench.calls = (TURN.as_nanos() as f64 / once).ceil().max(1.0) as usize;
         bench
     }
 
-    /// The graphs of a round, as numbers: one after the other, round after round.
-    fn graphs(&self, round: usize) -> impl Iterator<Item = usize> + use<> {
-        let (calls, graphs) = (self.calls, self.input.graphs.len());
-        (round * calls..(round + 1) * calls).map(move |call| call % graphs)
-    }
-
-    fn ours(&mut self, round: usize) -> f64 {
-        let mut total = Duration::ZERO;
-        for number in self.graphs(round) {
-            let graph = black_box(&self.input.graphs[number]);
-            let start = Instant::now();
-            black_box(self.ours.run(self.call, graph));
-            total += start.elapsed();
-        }
-        self.each(total)
-    }
-
-    fn theirs(&mut self, round: usize, before: Before) -> f64 {
-        let mut total = Duration::ZERO;
-        for number in self.graphs(round) {
-            let graph = black_box(&self.input.graphs[number]);
-            total += self.theirs[number].run(self.call, graph, before, |run| {
-                let start = Instant::now();
-                black_box(run());
-                start.elapsed()
-            });
-        }
-        self.each(total)
-    }
-
-    /// Nanoseconds a call.
-    fn each(&self, total: Duration) -> f64 {
+    /// Nanoseconds a call of a side in a round: on one graph after the other,
+    /// round after round.
+    fn time(&mut self, side: usize, round: usize) -> f64 {
+        let run = &mut self.sides[side];
+        let calls = round * self.calls..(round + 1) * self.calls;
+        let total: Duration = calls.map(|call| run(call % self.graphs)).sum();
         let clock = self.clock * self.calls as u32;
         total.saturating_sub(clock).as_nanos() as f64 / self.calls as f64
     }
 
     fn round(&mut self, round: usize) {
-        let mut times = [0.0; 4];
-        for turn in 0..4 {
-            let side = (round + turn) % 4;
-            let mut time = || match side {
-                0 => self.ours(round),
-                _ => self.theirs(round, Before::ALL[side - 1]),
-            };
+        let sides = self.sides.len();
+        let mut times = vec![0.0; sides];
+        for turn in 0..sides {
+            let side = (round + turn) % sides;
             // The first time is thrown away: caches and branches settle.
-            time();
-            times[side] = time();
+            self.time(side, round);
+            times[side] = self.time(side, round);
         }
         self.rounds.push(times);
     }
 
-    fn measured(&self) -> Measured {
+    fn measured(self) -> Measured {
         let best = |side: usize| {
             let times = self.rounds.iter().map(|round| round[side]);
             times.fold(f64::INFINITY, f64::min)
@@ -127,28 +156,59 @@ impl<'a> Bench<'a> {
             [1, 2, 3].map(|quarter| ratios[(ratios.len() - 1) * quarter / 4])
         };
         Measured {
-            size: self.input.size,
-            loops: self.input.loops,
-            call: self.call,
             ours: best(0),
-            theirs: [1, 2, 3].map(best),
-            ratios: [1, 2, 3].map(quartiles),
-            parts: self.input.parts as f64 / self.input.graphs.len() as f64,
+            others: (1..self.sides.len())
+                .map(|side| Other {
+                    best: best(side),
+                    ratios: quartiles(side),
+                })
+                .collect(),
+            ..self.measured
         }
     }
 }
 
-/// All calls on all inputs, each once a round, all sides in turn.
-pub fn all(inputs: &[Input], rounds: usize) -> Vec<Measured> {
-    let clock = clock();
-    let mut benches: Vec<Bench> = inputs
-        .iter()
-        .flat_map(|input| Call::ALL.map(|call| Bench::new(input, call, clock)))
-        .collect();
+/// Each once a round, all sides in turn.
+fn run(mut benches: Vec<Bench>, rounds: usize) -> Vec<Measured> {
     for round in 0..rounds {
         for bench in &mut benches {
             bench.round(round);
         }
     }
-    benches.iter().map(Bench::measured).collect()
+    benches.into_iter().map(Bench::measured).collect()
+}
+
+/// All calls on all inputs, held to the Rust.
+pub fn all<W: Word>(inputs: &[Input<W>], rounds: usize) -> Vec<Measured> {
+    let clock = clock();
+    let benches = inputs.iter().flat_map(|input| {
+        Call::ALL.map(|call| Bench::new(input, call, theirs(input, call), clock))
+    });
+    run(benches.collect(), rounds)
+}
+
+/// All calls of edition 2, held to those of edition 1 on the same content.
+pub fn editions(graphs: Option<usize>, rounds: usize) -> Vec<Measured> {
+    let (wide, narrow) = (inputs::all::<u32>(graphs), inputs::all::<u16>(graphs));
+    let clock = clock();
+    let benches = wide.iter().zip(&narrow).flat_map(|(wide, narrow)| {
+        Call::ALL.map(|call| Bench::new(wide, call, [ours(narrow, call)], clock))
+    });
+    run(benches.collect(), rounds)
+}
+
+/// The least rounds of the largest graphs.
+const LEAST: usize = 10;
+
+/// All calls of edition 2 on its own sizes, held to the Rust: one input after
+/// the other, since the largest take much memory, and fewer rounds of larger ones.
+pub fn scale(rounds: usize) -> Vec<Measured> {
+    let mut measured = Vec::new();
+    for size in WIDE_SIZES {
+        let fewer = (rounds * WIDE_SIZES[0] / size).max(LEAST.min(rounds));
+        for loops in [false, true] {
+            measured.extend(all(&[inputs::input::<u32>(size, loops, None)], fewer));
+        }
+    }
+    measured
 }

@@ -2,7 +2,9 @@
 
 use std::fmt::Write as _;
 
-use crate::measure::{Measured, THEORY};
+use crate::caches::Cache;
+use crate::inputs::WIDE_WORDS;
+use crate::measure::{EDITION_1, Measured, THEORY};
 use crate::sides::{Before, Call};
 
 fn thousands(number: usize) -> String {
@@ -12,15 +14,16 @@ fn thousands(number: usize) -> String {
     format!("{},{:03}", number / 1_000, number % 1_000)
 }
 
-/// Times and ratios: a row for each input, two columns for each call.
-pub fn times(measured: &[Measured]) -> String {
+/// Times, and ratios to one of the others: a row for each input, two columns for
+/// each call.
+pub fn times(measured: &[Measured], other: usize) -> String {
     let mut table = String::from("| A = N = P | loops |");
     for call in Call::ALL {
         let _ = write!(table, " {}, µs | ratio |", call.name());
     }
     rows(table, measured, |cell| {
         let micros = cell.ours / 1_000.0;
-        format!(" {micros:.2} | {} |", spread(cell.ratios[THEORY]))
+        format!(" {micros:.2} | {} |", spread(cell.others[other].ratios))
     })
 }
 
@@ -33,7 +36,7 @@ pub fn befores(measured: &[Measured]) -> String {
     rows(table, measured, |cell| match cell.call {
         Call::Check => String::new(),
         _ => [Before::Words, Before::Lists]
-            .map(|before| format!(" {} |", spread(cell.ratios[before as usize])))
+            .map(|before| format!(" {} |", spread(cell.others[before as usize].ratios)))
             .concat(),
     })
 }
@@ -50,7 +53,7 @@ pub fn parts(measured: &[Measured]) -> String {
         let _ = write!(table, " {}, ns | the Rust, ns |", call.name());
     }
     rows(table, measured, |cell| {
-        let [ours, theirs] = [cell.ours, cell.theirs[THEORY]].map(|time| time / cell.parts);
+        let [ours, theirs] = [cell.ours, cell.others[THEORY].best].map(|time| time / cell.parts);
         format!(" {ours:.1} | {theirs:.1} |")
     })
 }
@@ -81,7 +84,7 @@ impl Bar {
     }
 }
 
-/// The loop test is at most as slow as the Rust, the pass takes at most 0.8 of
+/// Edition 1: the loop test is at most as slow as the Rust, the pass takes at most 0.8 of
 /// its time, the check at the largest graph at most 1.5 times plain Rust's; and
 /// time a vertex and edge of the loop test and of the pass hardly grows with the graph.
 pub fn bars(measured: &[Measured]) -> Vec<Bar> {
@@ -96,7 +99,7 @@ pub fn bars(measured: &[Measured]) -> Vec<Bar> {
         };
         bars.push(Bar {
             what: format!("{}: ratio", name(cell)),
-            figure: cell.ratios[THEORY][1],
+            figure: cell.others[THEORY].ratios[1],
             most,
         });
     }
@@ -121,8 +124,81 @@ pub fn bars(measured: &[Measured]) -> Vec<Bar> {
     bars
 }
 
+/// Edition 2 by edition 1: every call on the largest graph takes at most 1.3
+/// times as long.
+pub fn edition_bars(measured: &[Measured]) -> Vec<Bar> {
+    let largest = measured.iter().map(|cell| cell.size).max();
+    let held = measured.iter().filter(|cell| Some(cell.size) == largest);
+    held.map(|cell| Bar {
+        what: format!("{}: edition 2 by edition 1", name(cell)),
+        figure: cell.others[EDITION_1].ratios[1],
+        most: 1.3,
+    })
+    .collect()
+}
+
+/// Edition 2 alone: the pass takes at most 0.7 of the Rust's time at every size,
+/// and time a vertex and edge of a call is the same at all sizes, within a
+/// factor of 4.
+pub fn scale_bars(measured: &[Measured]) -> Vec<Bar> {
+    let mut bars = Vec::new();
+    for cell in measured.iter().filter(|cell| cell.call == Call::Pass) {
+        bars.push(Bar {
+            what: format!("wide {}: ratio", name(cell)),
+            figure: cell.others[THEORY].ratios[1],
+            most: 0.7,
+        });
+    }
+    for (call, loops) in Call::ALL
+        .into_iter()
+        .flat_map(|call| [(call, false), (call, true)])
+    {
+        let of = measured
+            .iter()
+            .filter(|cell| (cell.call, cell.loops) == (call, loops));
+        let times: Vec<f64> = of.map(|cell| cell.ours / cell.parts).collect();
+        let low = times.iter().copied().fold(f64::INFINITY, f64::min);
+        let high = times.iter().copied().fold(0.0, f64::max);
+        bars.push(Bar {
+            what: format!(
+                "wide {} {} loops: most time a vertex and edge by least",
+                call.name(),
+                with(loops)
+            ),
+            figure: high / low,
+            most: 4.0,
+        });
+    }
+    bars
+}
+
+/// The atoms at which graph and work area of a wide call are as large as a cache.
+pub fn filled(cache: Cache) -> f64 {
+    cache.bytes as f64 / (WIDE_WORDS * size_of::<u32>()) as f64
+}
+
+/// Where the caches end.
+pub fn caches(caches: &[Cache]) -> String {
+    let mut lines = String::new();
+    for &cache in caches {
+        let (kibi, atoms) = (cache.bytes / 1_024, filled(cache) as usize);
+        let _ = writeln!(
+            lines,
+            "graph and work area are as large as L{} ({} KiB) at {} atoms",
+            cache.level,
+            thousands(kibi),
+            thousands(atoms)
+        );
+    }
+    lines
+}
+
+fn with(loops: bool) -> &'static str {
+    if loops { "with" } else { "without" }
+}
+
 fn name(cell: &Measured) -> String {
-    let with = if cell.loops { "with" } else { "without" };
+    let with = with(cell.loops);
     let (call, size) = (cell.call.name(), thousands(cell.size));
     format!("{call} at {size} {with} loops")
 }

@@ -1,9 +1,9 @@
 //! One call on each side, with all that it needs inside.
 
-use founded::{WORK_WORDS, raw};
 use oracle::{Lists, Oracle};
 
 use crate::plain;
+use crate::word::Word;
 
 /// The calls measured.
 #[derive(Clone, Copy, Debug, PartialEq, Eq)]
@@ -35,24 +35,26 @@ pub enum Answer {
     Atoms(Vec<u64>),
 }
 
-/// The proved calls, with their memory used again and again.
-pub struct Ours {
+/// The proved calls of an edition, with their memory used again and again.
+pub struct Ours<W> {
     clear: Vec<u64>,
     output: Vec<u64>,
-    work: Vec<u16>,
+    work: Vec<W>,
 }
 
-impl Ours {
-    pub fn new(size: usize) -> Self {
+impl<W: Word> Ours<W> {
+    /// For all graphs that have as many atoms, nodes and entries as this one.
+    pub fn new(graph: &[W]) -> Self {
+        let words = graph[1].number().div_ceil(64);
         Self {
-            clear: vec![0; size.div_ceil(64)],
-            output: vec![0; size.div_ceil(64)],
-            work: vec![0; WORK_WORDS],
+            clear: vec![0; words],
+            output: vec![0; words],
+            work: vec![W::default(); W::work_words(graph)],
         }
     }
 
     /// Graph check, rows, the call itself and the clearing of the work area.
-    pub fn run(&mut self, call: Call, graph: &[u16]) -> u32 {
+    pub fn run(&mut self, call: Call, graph: &[W]) -> W::Code {
         let (words, length) = (graph.as_ptr(), graph.len());
         let (output, output_len) = (self.output.as_mut_ptr(), self.output.len());
         let (work, work_len) = (self.work.as_mut_ptr(), self.work.len());
@@ -61,12 +63,10 @@ impl Ours {
         // are written overlap.
         unsafe {
             match call {
-                Call::Check => raw::founded_check(words, length),
-                Call::LoopTest => raw::founded_needed(words, length, work, work_len),
-                Call::Preparation => {
-                    raw::founded_prepare(words, length, output, output_len, work, work_len)
-                }
-                Call::Pass => raw::founded_complete(
+                Call::Check => W::CHECK(words, length),
+                Call::LoopTest => W::NEEDED(words, length, work, work_len),
+                Call::Preparation => W::PREPARE(words, length, output, output_len, work, work_len),
+                Call::Pass => W::COMPLETE(
                     words, length, clear, clear_len, clear, clear_len, output, output_len, work,
                     work_len,
                 ),
@@ -74,12 +74,14 @@ impl Ours {
         }
     }
 
-    pub fn answer(&mut self, call: Call, graph: &[u16]) -> Answer {
-        let answer = self.run(call, graph);
+    /// # Panics
+    /// On a refusal.
+    pub fn answer(&mut self, call: Call, graph: &[W]) -> Answer {
+        let code: u64 = self.run(call, graph).into();
         match call {
-            Call::LoopTest => Answer::Loops(answer == 1),
-            _ if answer != 0 => panic!("refused: {answer}"),
-            Call::Check => Answer::Accepted,
+            Call::LoopTest if code <= 1 => Answer::Loops(code == 1),
+            _ if code != 0 => panic!("refused: {code:#x}"),
+            Call::LoopTest | Call::Check => Answer::Accepted,
             Call::Preparation | Call::Pass => Answer::Atoms(self.output.clone()),
         }
     }
@@ -109,8 +111,8 @@ pub struct Theirs {
 }
 
 impl Theirs {
-    pub fn new(graph: &[u16]) -> Self {
-        let atoms = usize::from(graph[1]);
+    pub fn new<W: Word>(graph: &[W]) -> Self {
+        let atoms = graph[1].number();
         Self {
             lists: Lists::new(graph),
             oracle: Oracle::new(graph).expect("rows"),
@@ -120,10 +122,10 @@ impl Theirs {
 
     /// Rows, a fresh scratch and the call itself, with no graph check; but the
     /// check alone is the plain one. `timed` is given all that is to be timed.
-    pub fn run<T>(
+    pub fn run<W: Word, T>(
         &mut self,
         call: Call,
-        graph: &[u16],
+        graph: &[W],
         before: Before,
         timed: impl FnOnce(&mut dyn FnMut() -> Answer) -> T,
     ) -> T {
