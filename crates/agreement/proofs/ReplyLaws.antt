@@ -60,6 +60,6 @@ module _ {number code : ℕ} {places words output work : List ℕ} where
       (λ t. record { number-right = n; place-right = p; output-right = o; work-right = h .0 t }, λ a. h .1 (a .work-right))
 
 -- the program's text
-pub program-says : {input out text : List ℕ} {n : ℕ} {b : Bool} → Reported input out n → (b ≡ true) ↔ (take n out ≡ text) → ProgramAgrees input text b
+pub program-says : {input old out text : List ℕ} {n : ℕ} {b : Bool} → Reported input old out n → (b ≡ true) ↔ (take n out ≡ text) → ProgramAgrees input text b
 unfolding reportText
 program-says p h = record { place = p .place; absorbed = p .absorbed; told = rw (p .text) at h }

@@ -102,13 +102,13 @@ append-within : {old text new : List ℕ} {r : ℕ} → Appended old 0 text new 
 append-within {text = text} {new = new} {r = r} a = omega (arith, a .end, sym (length-take r new) ∙ ap length (a .text-there))
 
 pub print-refusal : {answers : ℕ → Answer} {both : List ℕ} {th : Theory} {old new : List ℕ} {r n q : ℕ} (a : Answer) (p : ℕ) → answers p ≡ a → n ≡ a .number → q ≡ a .place
-    → (n ≡ 0 → ⊥) → (a .number ≡ 12 → Mem p (absorbedIn th)) → Appended old 0 (refusedLine n q) new r → Printed answers both th new r
+    → (n ≡ 0 → ⊥) → (a .number ≡ 12 → Mem p (absorbedIn th)) → Appended old 0 (refusedLine n q) new r → Printed answers both th old new r
 print-refusal {both = both} {n = n} {q = q} a p e en eq h m t =
-    record { place = p; within = append-within t; exact = sym (length-take-le _ _ (append-within t)); text = t .text-there ∙ rw e (refused-text a both n q en eq h); absorbed = rw e m }
+    record { place = p; within = append-within t; exact = sym (length-take-le _ _ (append-within t)); text = t .text-there ∙ rw e (refused-text a both n q en eq h); behind = t .behind; absorbed = rw e m }
 
 pub print-both : {answers : ℕ → Answer} {both : List ℕ} {th : Theory} {old new text : List ℕ} {r : ℕ} (p : ℕ) → answers p .number ≡ 0 → text ≡ both → Appended old 0 text new r
-    → Printed answers both th new r
-print-both p e h t = record { place = p; within = append-within t; exact = sym (length-take-le _ _ (append-within t)); text = t .text-there ∙ rw (e, h); absorbed = λ g. absurd (omega (arith, e, g)) }
+    → Printed answers both th old new r
+print-both p e h t = record { place = p; within = append-within t; exact = sym (length-take-le _ _ (append-within t)); text = t .text-there ∙ rw (e, h); behind = t .behind; absorbed = λ g. absurd (omega (arith, e, g)) }
 
 pub lines-same : (graph never atomNever output : List ℕ) (cycle : Bool) (atoms : ℕ) → cycle ≡ hasCycle (theoryOf graph) → atoms ≡ getD graph 1 0
     → output ≡ pack (getD graph 1 0) (missing (theoryOf graph) (bitAt never) (bitAt atomNever))
@@ -182,5 +182,5 @@ module _ {graph masks : List ℕ} {r : ℕ} (s : Split graph masks r) where
   node-mask = rw (rest-all masks r, s .atoms)
 
 -- the same answers make the same text
-pub print-same : {answers others : ℕ → Answer} {both : List ℕ} {th : Theory} {out : List ℕ} {r : ℕ} → ((p : ℕ) → answers p ≡ others p) → Printed others both th out r → Printed answers both th out r
-print-same e t = record { place = t .place; within = t .within; exact = t .exact; text = rw (e (t .place)) (t .text); absorbed = rw (e (t .place)) (t .absorbed) }
+pub print-same : {answers others : ℕ → Answer} {both : List ℕ} {th : Theory} {old out : List ℕ} {r : ℕ} → ((p : ℕ) → answers p ≡ others p) → Printed others both th old out r → Printed answers both th old out r
+print-same e t = record { place = t .place; within = t .within; exact = t .exact; text = rw (e (t .place)) (t .text); behind = t .behind; absorbed = rw (e (t .place)) (t .absorbed) }

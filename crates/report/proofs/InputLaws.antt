@@ -80,14 +80,14 @@ size-large : (input : List ℕ) → 26634 < graphSize input → badCounts editio
 unfolding graphSize
 size-large input h = counts-large (words 2 input) (omega arith)
 
-pub report-whole : (input out : List ℕ) (r b : ℕ) → b ≡ min (length input) (min (graphSize input) 26634) → ReportedOf (words 2 (take b input)) (drop b input) out r → Reported input out r
+pub report-whole : (input old out : List ℕ) (r b : ℕ) → b ≡ min (length input) (min (graphSize input) 26634) → ReportedOf (words 2 (take b input)) (drop b input) old out r → Reported input old out r
 unfolding graphSize graphOf masksOf
-report-whole input out r b e t = go (decLe (graphSize input) 26634) (decLe (length input) 26634)
+report-whole input old out r b e t = go (decLe (graphSize input) 26634) (decLe (length input) 26634)
   where
-    part : b ≡ min (length input) (graphSize input) → Reported input out r
+    part : b ≡ min (length input) (graphSize input) → Reported input old out r
     part l = rw (l, take-least, drop-least) at t
 
-    go : Dec (graphSize input ≤ 26634) → Dec (length input ≤ 26634) → Reported input out r
+    go : Dec (graphSize input ≤ 26634) → Dec (length input ≤ 26634) → Reported input old out r
     go (yes s) d = part (omega arith)
     go (no s) (yes l) = part (omega arith)
     go (no s) (no l) =
@@ -101,6 +101,7 @@ report-whole input out r b e t = go (decLe (graphSize input) 26634) (decLe (leng
           within = t .within;
           exact = t .exact;
           text = t .text ∙ refused-same (headRefusal (words 2 input)) _ _ _ _ mine whole (low .0);
+          behind = t .behind;
           absorbed = λ z. absurd (omega (arith, low, z, ap (λ (a : Answer). a .number) whole));
         }
 
@@ -146,6 +147,6 @@ enough input cap p h = go (decLe (length input) cap) (decLe (graphSize input) 26
         (head-only (masksOf input) p (header-whole input long) large) (head-number (badEdition edition1 (words 2 input)) .0)
 
 -- what `report` promises is that text
-pub reported-text : (input out : List ℕ) (r : ℕ) (t : Reported input out r) → take r out ≡ reportText input (t .place)
+pub reported-text : (input old out : List ℕ) (r : ℕ) (t : Reported input old out r) → take r out ≡ reportText input (t .place)
 unfolding reportText
-reported-text input out r t = t .text
+reported-text input old out r t = t .text

@@ -57,13 +57,14 @@ reportText input place =
     let masks = masksOf input in
     textBy (answer graph masks place) (lines graph (nodeMask graph masks) (atomMask graph masks))
 
--- the first r bytes of out are the text; the place of a 12, and nothing else, is free among the absorbed nodes of the body cone. `exact` follows
+-- the first r bytes of out are the text, and behind it out is as it was (old); the place of a 12, and nothing else, is free among the absorbed nodes of the body cone. `exact` follows
 -- from `within`; both are stated so that a caller who lends those r bytes needs no proof.
-pub record Printed (answers : (place : ℕ) → Answer) (both : List ℕ) (th : Theory) (out : List ℕ) (r : ℕ) : Type 0 where
+pub record Printed (answers : (place : ℕ) → Answer) (both : List ℕ) (th : Theory) (old out : List ℕ) (r : ℕ) : Type 0 where
   pub place : ℕ
   pub within : r ≤ length out
   pub exact : r ≡ length (take r out)
   pub text : take r out ≡ textBy (answers place) both
+  pub behind : drop r out ≡ drop r old
   pub absorbed : answers place .number ≡ 12 → Mem place (absorbedIn th)
 
 -- where the masks of an accepted graph are split: r bytes are the atom mask's, and the rest the node mask's
@@ -80,12 +81,12 @@ pub record Ready (graph never atomNever out : List ℕ) : Type 0 where
   pub atom-words : length atomNever ≡ wordsOf (getD graph 1 0)
   pub room : 6144 ≤ length out
 
-abbrev pub Passed : (graph never atomNever out : List ℕ) (r : ℕ) → Type 0
-Passed graph never atomNever out r = Printed (absorbedRow (theoryOf graph)) (lines graph never atomNever) (theoryOf graph) out r
+abbrev pub Passed : (graph never atomNever old out : List ℕ) (r : ℕ) → Type 0
+Passed graph never atomNever old out r = Printed (absorbedRow (theoryOf graph)) (lines graph never atomNever) (theoryOf graph) old out r
 
-abbrev pub ReportedOf : (graph masks out : List ℕ) (r : ℕ) → Type 0
-ReportedOf graph masks out r = Printed (answer graph masks) (lines graph (nodeMask graph masks) (atomMask graph masks)) (theoryOf graph) out r
+abbrev pub ReportedOf : (graph masks old out : List ℕ) (r : ℕ) → Type 0
+ReportedOf graph masks old out r = Printed (answer graph masks) (lines graph (nodeMask graph masks) (atomMask graph masks)) (theoryOf graph) old out r
 
 -- what `report` promises: its text is `reportText input place`
-abbrev pub Reported : (input out : List ℕ) (r : ℕ) → Type 0
-Reported input out r = ReportedOf (graphOf input) (masksOf input) out r
+abbrev pub Reported : (input old out : List ℕ) (r : ℕ) → Type 0
+Reported input old out r = ReportedOf (graphOf input) (masksOf input) old out r

@@ -36,7 +36,7 @@ fn report_pass(
 ) -> usize
     requires { ⌜ Ready (now graph) (now never) (now «atom_never») (now out) ⌝ }
     requires { ⌜ (length (now output) ≡ wordsOf (getD (now graph) 1 0)) × (length (now work) ≡ 32768) ⌝ }
-    ensures { λ r. ⌜ Passed (now (graph .entry)) (now (never .entry)) (now («atom_never» .entry)) (now (out .exit)) r ⌝ }
+    ensures { λ r. ⌜ Passed (now (graph .entry)) (now (never .entry)) (now («atom_never» .entry)) (now (out .entry)) (now (out .exit)) r ⌝ }
 {
     let cycle = loops(graph, work);
     let completed = founded::complete(graph, never, atom_never, output, work);
@@ -49,7 +49,7 @@ fn report_pass(
 
 fn report_words(graph: &[u16], never: &[u64], atom_never: &[u64], out: &mut [u8]) -> usize
     requires { ⌜ Ready (now graph) (now never) (now «atom_never») (now out) ⌝ }
-    ensures { λ r. ⌜ Passed (now (graph .entry)) (now (never .entry)) (now («atom_never» .entry)) (now (out .exit)) r ⌝ }
+    ensures { λ r. ⌜ Passed (now (graph .entry)) (now (never .entry)) (now («atom_never» .entry)) (now (out .entry)) (now (out .exit)) r ⌝ }
 {
     let mut output = [0u64; 16];
     let mut work = [0u16; 32768];
@@ -67,7 +67,7 @@ fn atom_bytes(graph: &[u16], masks: &[u8]) -> usize
 // The masks of an accepted graph: first the atom mask, and the rest is the node mask.
 fn report_masks(graph: &[u16], masks: &[u8], out: &mut [u8]) -> usize
     requires { ⌜ (graphAnswer edition1 (now graph) ≡ accept) × (badMasks (now graph) (now masks) ≡ false) × (6144 ≤ length (now out)) ⌝ }
-    ensures { λ r. ⌜ ReportedOf (now (graph .entry)) (now (masks .entry)) (now (out .exit)) r ⌝ }
+    ensures { λ r. ⌜ ReportedOf (now (graph .entry)) (now (masks .entry)) (now (out .entry)) (now (out .exit)) r ⌝ }
 {
     let mut atom_never = [0u64; 16];
     let mut never = [0u64; 16];
@@ -88,7 +88,7 @@ fn bad_masks(graph: &[u16], masks: &[u8]) -> bool
 // The graph's words and the bytes after them.
 fn report_graph(graph: &[u16], masks: &[u8], out: &mut [u8]) -> usize
     requires { ⌜ 6144 ≤ length (now out) ⌝ }
-    ensures { λ r. ⌜ ReportedOf (now (graph .entry)) (now (masks .entry)) (now (out .exit)) r ⌝ }
+    ensures { λ r. ⌜ ReportedOf (now (graph .entry)) (now (masks .entry)) (now (out .entry)) (now (out .exit)) r ⌝ }
 {
     let checked = graph::check(graph);
     let number = numbers::checked_number(checked);
@@ -103,7 +103,7 @@ fn report_graph(graph: &[u16], masks: &[u8], out: &mut [u8]) -> usize
 
 fn report_input(input: &[u8], out: &mut [u8]) -> usize
     requires { ⌜ 6144 ≤ length (now out) ⌝ }
-    ensures { λ r. ⌜ Reported (now (input .entry)) (now (out .exit)) r ⌝ }
+    ensures { λ r. ⌜ Reported (now (input .entry)) (now (out .entry)) (now (out .exit)) r ⌝ }
 {
     let mut graph = [0u16; 13317];
     let bytes = input::graph_bytes(input);
@@ -113,7 +113,7 @@ fn report_input(input: &[u8], out: &mut [u8]) -> usize
 
 // The text for standard input's bytes: how many bytes of `out` it takes.
 pub fn report(input: &[u8], out: &mut [u8; 6144]) -> usize
-    ensures { λ r. ⌜ Reported (now (input .entry)) (now (out .exit)) r ⌝ }
+    ensures { λ r. ⌜ Reported (now (input .entry)) (now (out .entry)) (now (out .exit)) r ⌝ }
 {
     report_input(input, out)
 }

@@ -8,7 +8,7 @@ use native.Mathlib.Numerals.{add-one}
 use native.Mathlib.Omega.{arith}
 use native.Mathlib.Decide.{decLt}
 use lib.ListN.{length, take, set, getD, length-append}
-use lib.Seq.{take-suc-set, take-suc, take-all}
+use lib.Seq.{take-suc-set, take-suc, take-all, drop-set-lt, drop-drop}
 use borrow.Author.Tests.{lt-ltb, le-ltb}
 use Rattle.theory.specs.Sets.{Set, members}
 use Rattle.mask.specs.Mask.{digit}
@@ -58,15 +58,16 @@ decimal-five n h = decimal-tenth n 4 (decimal-four (n / 10) (omega arith))
 -- ---- appending
 
 pub append-none : (old : List ℕ) (at : ℕ) → Appended old at [] old at
-append-none old at = record { end = omega arith; text-there = sym (append-nil (take at old)) }
+append-none old at = record { end = omega arith; text-there = sym (append-nil (take at old)); behind = refl }
 
 pub append-byte : (old : List ℕ) (at b : ℕ) → at < length old → Appended old at (b ∷ []) (set old at b) (at + 1)
-append-byte old at b h = record { end = refl; text-there = rw (add-one, take-suc-set old at b h) }
+append-byte old at b h = record { end = refl; text-there = rw (add-one, take-suc-set old at b h); behind = drop-set-lt (at + 1) old at b (omega arith) }
 
 pub append-then : {old mid new s t : List ℕ} {at m r : ℕ} → Appended old at s mid m → Appended mid m t new r → Appended old at (s ++ t) new r
 append-then {old} {mid} {new} {s} {t} {at} {m} {r} p q = record {
   end = rw length-append (omega arith);
   text-there = q .text-there ∙ rw (p .text-there, append-assoc);
+  behind = q .behind ∙ rw (q .end, ← drop-drop (length t) m mid, ← drop-drop (length t) m old, p .behind);
 }
 
 -- a text, byte by byte

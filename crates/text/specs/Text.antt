@@ -4,7 +4,7 @@ use mathlib.Core.Bool.{Bool, cond}
 use mathlib.Core.List.{List, [], _∷_, _++_}
 use Prim.Native.Nat.{ℕ, zero, suc, _+_, _/_, _%_}
 use lib.Dec.{ltb}
-use lib.ListN.{length, take}
+use lib.ListN.{length, take, drop}
 
 -- a number below 10 is its digit; any other, what stands for its tenth and then its last digit. The fuel is above the number.
 unfoldable pub digitsIn : ℕ → ℕ → List ℕ
@@ -48,7 +48,8 @@ missingLine atoms = line missingWord (length atoms ∷ atoms)
 abbrev pub only : Bool → ℕ → List ℕ
 only b n = cond b (n ∷ []) []
 
--- what a function that appends leaves: the text stands at `at`, all before it is as it was, and the next place is r
+-- what a function that appends leaves: the text stands at `at`, all before it and all behind it is as it was, and the next place is r
 pub record Appended (old : List ℕ) (at : ℕ) (text new : List ℕ) (r : ℕ) : Type 0 where
   pub end : r ≡ at + length text
   pub text-there : take r new ≡ take at old ++ text
+  pub behind : drop r new ≡ drop r old

@@ -55,7 +55,7 @@ returns c =
     let c-graph-bytes = p1 .before .before .before .graph-bytes in
     let p2 = p1 .before .before .before .before .before .before in
     let c-args = p2 .args in
-    report-whole (now (c-args .input)) _ _ (c-graph-bytes .result) (c-graph-bytes .ensures)
+    report-whole (now (c-args .input)) _ _ _ (c-graph-bytes .result) (c-graph-bytes .ensures)
     (rw (c-graph-words .ensures .decoded, rest-all (now (c-args .input)) (c-graph-bytes .result)) at (c-report-graph .ensures))
 
 pub report-input-spec : {M : Type 1} → statement M
