@@ -1,31 +1,46 @@
--- The contracts of preparation and pass from what they share (`prepares`, `completes`), and what the tests of 10 and 11 leave.
-use mathlib.Core.Path.{_≡_, sym, _∙_}
+-- The contracts of preparation and pass from what they share (`prepares`, `completes`), what the tests of 10 and 11 leave, and the pass's answer where rows 1 to 11
+-- accept (`last-row`).
+use mathlib.Core.Path.{_≡_, refl, sym, _∙_}
 use mathlib.Core.Logic.{_≢_}
-use mathlib.Core.Bool.{Bool, true, false}
-use mathlib.Core.List.{List}
+use mathlib.Core.Bool.{Bool, true, false, cond}
+use mathlib.Core.List.{List, [], _∷_}
 use Prim.Native.Nat.{ℕ}
 use borrow.Author.Tests.{eq-eqb, ne-eqb, eqb-true, not-false}
 use lib.Dec.{eqb}
 use lib.ListN.{length, getD}
+use Rattle.theory.specs.Sets.{filled}
+use Rattle.theory.specs.Theory.{Theory}
 use Rattle.theory.specs.Words.{theoryOf, bitAt}
 use Rattle.theory.specs.Accepted.{Edition, areaOf}
 use Rattle.theory.specs.Founded.{cyclic, missing}
+use Rattle.theory.specs.Cases.{absorbedIn}
 use Rattle.theory.proofs.SetLaws.{clash, is-false, or-right}
+use Rattle.theory.proofs.CycleLaws.{cyclic-walk}
 use Rattle.theory.proofs.UnfoundedLaws.{missing-exactly}
 use Rattle.mask.specs.Mask.{wordsOf}
+use Rattle.graph.specs.Answer.{accept, refuse, refuseIf, orNext, firstRefusal}
+use Rattle.graph.specs.Refusals.{graphRows, graphAnswer}
+use Rattle.graph.proofs.RowLaws.{rows-append}
 use Rattle.founded.specs.declared.Prepared.{Prepared}
 use Rattle.founded.specs.declared.Prepared.the-variants.{Done}
 use Rattle.founded.specs.declared.Completed.{Completed}
 use Rattle.founded.specs.declared.Completed.the-variants.{Done as AllDone}
-use Rattle.founded.specs.Answers.{preparedOf, completedOf, badMask, badLengths, badWork, prepareAnswer, completeAnswer, Prepares, Completes}
+use Rattle.founded.specs.Answers.{preparedOf, completedOf, badMask, badLengths, badWork, absorbedRow, prepareAnswer, completeAnswer, Prepares, Completes}
 use Rattle.founded.proofs.OutcomeLaws.{Answered}
-use Rattle.founded.proofs.OutputLaws.{missing-list}
+use Rattle.founded.proofs.OutputLaws.{cyclic-list, missing-list}
 
 pub prepares : {ed : Edition} {ws output work output′ work′ : List ℕ} {r : Prepared}
     → Answered ed ws (badMask (getD ws 1 0) (length output)) (badWork ed ws (length work)) (cyclic (theoryOf ws)) output work output′ work′ (preparedOf r)
     → (preparedOf r .number ≡ 0 → r ≡ Done) → Prepares ed ws output work output′ work′ r
 unfolding prepareAnswer
-prepares h d = record { answer = h .answer; done = d; absorbed = h .absorbed; output-after = h .output-after; work-after = h .work-after }
+prepares {ws = ws} {r = r} h d = record {
+  answer = h .answer;
+  done = d;
+  absorbed = h .absorbed;
+  output-after = h .output-after;
+  work-after = h .work-after;
+  closed-walk = λ q a. rw (h .output-after, eq-eqb (preparedOf r .number) 0 q, cyclic-list ws) (cyclic-walk (theoryOf ws) a);
+}
 
 pub completes : {ed : Edition} {ws never atomNever output work output′ work′ : List ℕ} {r : Completed}
     → Answered ed ws (badLengths ws (length never) (length atomNever) (length output)) (badWork ed ws (length work)) (missing (theoryOf ws) (bitAt never) (bitAt atomNever)) output work output′ work′ (completedOf r)
@@ -61,3 +76,21 @@ work-fits ed ws w e = rw (eq-eqb w (areaOf ed (theoryOf ws)) e)
 
 pub work-bad : (ed : Edition) (ws : List ℕ) {w k : ℕ} → w ≢ k → k ≡ areaOf ed (theoryOf ws) → badWork ed ws w ≡ true
 work-bad ed ws {w} n e = rw (← e, ne-eqb w _ n)
+
+-- row 12 is the last
+pub absorbed-last : (th : Theory) (p : ℕ) → orNext (absorbedRow th p) accept ≡ absorbedRow th p
+unfolding absorbedRow
+absorbed-last th p = go (filled (absorbedIn th))
+  where
+    go : (b : Bool) → orNext (cond b (refuse 12 p) accept) accept ≡ cond b (refuse 12 p) accept
+    go true = refl
+    go false = refl
+
+-- nothing but row 12 is left for the pass to refuse
+pub last-row : {ed : Edition} {ws never atomNever output work output′ work′ : List ℕ} {r : Completed} → graphAnswer ed ws ≡ accept
+    → badLengths ws (length never) (length atomNever) (length output) ≡ false → badWork ed ws (length work) ≡ false
+    → Completes ed ws never atomNever output work output′ work′ r → completedOf r ≡ absorbedRow (theoryOf ws) (completedOf r .place)
+unfolding completeAnswer graphAnswer firstRefusal
+last-row {ed} {ws} {never} {atomNever} {output} {work} {r = r} ok lengths area h =
+    let rest = refuseIf 10 (badLengths ws (length never) (length atomNever) (length output)) ∷ refuseIf 11 (badWork ed ws (length work)) ∷ absorbedRow (theoryOf ws) (completedOf r .place) ∷ [] in
+    h .answer ∙ rows-append (graphRows ed ws) rest ∙ rw (ok, lengths, area) (absorbed-last (theoryOf ws) (completedOf r .place))

@@ -4,7 +4,7 @@ use mathlib.Core.Path.{_≡_}
 use mathlib.Core.Logic.{_↔_}
 use mathlib.Core.Bool.{Bool, not, _||_, cond}
 use mathlib.Core.List.{List, [], _∷_, _++_}
-use Prim.Native.Nat.{ℕ}
+use Prim.Native.Nat.{ℕ, _<_}
 use lib.Dec.{eqb}
 use lib.ListN.{length, getD, replicate}
 use Rattle.theory.specs.Sets.{Set, Is, Mem, filled}
@@ -12,7 +12,7 @@ use Rattle.theory.specs.Theory.{Theory}
 use Rattle.theory.specs.Words.{theoryOf, bitAt}
 use Rattle.theory.specs.Accepted.{Edition, areaOf}
 use Rattle.theory.specs.Founded.{cyclic, missing}
-use Rattle.theory.specs.Unfounded.{Unfounded}
+use Rattle.theory.specs.Unfounded.{OnClosedWalk, Unfounded}
 use Rattle.theory.specs.Cases.{absorbedIn}
 use Rattle.mask.specs.Mask.{wordsOf, pack}
 use Rattle.graph.specs.Answer.{Answer, accept, refuse, refuseIf, firstRefusal}
@@ -77,6 +77,8 @@ pub record Prepares (ed : Edition) (graph output work output′ work′ : List �
   pub absorbed : preparedOf r .number ≡ 12 → Mem (preparedOf r .place) (absorbedIn (theoryOf graph))
   pub output-after : output′ ≡ outputLeft (preparedOf r .number) (getD graph 1 0) (cyclic (theoryOf graph)) output
   pub work-after : work′ ≡ workLeft (preparedOf r .number) work
+  -- on success a bit of the output is set exactly if its atom is on a closed walk
+  pub closed-walk : preparedOf r .number ≡ 0 → (a : ℕ) → Is (bitAt output′ a) ↔ ((a < theoryOf graph .atoms) × OnClosedWalk (theoryOf graph) a)
 
 -- the pass: the output lists the missing atoms
 pub record Completes (ed : Edition) (graph never atomNever output work output′ work′ : List ℕ) (r : Completed) : Type 0 where
