@@ -1,15 +1,15 @@
 -- What the calls answer on an accepted graph, and the text that their answers make.
 use mathlib.Core.Path.{_≡_, refl, sym, ap, _∙_}
 use mathlib.Core.Logic.{_⊎_, inl, inr}
-use mathlib.Core.Bool.{Bool, true, false, cond, true≢false}
+use mathlib.Core.Bool.{Bool, true, false}
 use mathlib.Core.List.{List, [], _∷_, _++_}
-use Prim.Native.Nat.{ℕ, zero, suc, _+_, _-_, _*_, _≤_, _<_}
+use Prim.Native.Nat.{ℕ, _+_, _-_, _*_, _≤_}
 use native.Mathlib.Omega.{arith}
 use lib.Dec.{eqb}
 use lib.ListN.{length, getD, take, drop, length-take, length-drop}
 use lib.Seq.{length-take-le}
-use borrow.Author.Tests.{lt-ltb, eq-eqb, ne-eqb, eqb-true, eqb-false, not-false}
-use Rattle.theory.specs.Sets.{Set, Mem, filled, members}
+use borrow.Author.Tests.{eq-eqb, ne-eqb, eqb-true, eqb-false, not-false}
+use Rattle.theory.specs.Sets.{Mem, members}
 use Rattle.theory.specs.Theory.{Theory}
 use Rattle.theory.specs.Words.{theoryOf, bitAt}
 use Rattle.theory.specs.Accepted.{edition1}
@@ -17,7 +17,6 @@ use Rattle.theory.specs.Founded.{hasCycle, missing}
 use Rattle.theory.specs.Cases.{absorbedIn}
 use Rattle.theory.proofs.SetLaws.{bool-cases}
 use Rattle.mask.specs.Mask.{wordsOf, pack}
-use Rattle.mask.proofs.MaskLaws.{pack-bit}
 use Rattle.graph.specs.Answer.{Answer, accept, refuse, orNext, firstRefusal}
 use Rattle.graph.specs.Refusals.{graphRows, graphAnswer, answerOf}
 use Rattle.graph.specs.declared.Checked.{Checked}
@@ -25,8 +24,10 @@ use Rattle.graph.specs.declared.Checked.the-variants.{Accepted, Edition, Counts
 use Rattle.graph.proofs.AcceptedLaws.{accepted}
 use Rattle.cycles.specs.Outcome.{Outcome, loops, refused, outcome, outcomeOf}
 use Rattle.cycles.specs.declared.Need.{Need}
-use Rattle.founded.specs.Answers.{absorbedRow, badLengths, completeAnswer, completedOf, Completes}
+use Rattle.founded.specs.Answers.{absorbedRow, badLengths, completedOf, Completes}
 use Rattle.founded.specs.declared.Completed.{Completed}
+use Rattle.founded.proofs.OutputLaws.{missing-list}
+use Rattle.founded.proofs.CallLaws.{absorbed-last, last-row, work-fits}
 use Rattle.input.specs.Bytes.{words}
 use Rattle.input.proofs.ByteLaws.{rest-all}
 use Rattle.text.specs.Text.{loopsLine, missingLine, refusedLine, Appended}
@@ -46,51 +47,20 @@ loops-reply graph work e h tests told =
 
 -- ---- the pass
 
--- rows that refuse nothing hand on to the rows after them
-rows-next : (rows more : List Answer) → firstRefusal rows ≡ accept → firstRefusal (rows ++ more) ≡ firstRefusal more
-unfolding firstRefusal
-rows-next [] more e = refl
-rows-next (a ∷ rows) more e = go (bool-cases (eqb (a .number) 0)) (rows-next rows more)
-  where
-    go : (eqb (a .number) 0 ≡ true) ⊎ (eqb (a .number) 0 ≡ false) → (firstRefusal rows ≡ accept → firstRefusal (rows ++ more) ≡ firstRefusal more)
-        → orNext a (firstRefusal (rows ++ more)) ≡ firstRefusal more
-    go (inl t) ih = rw t (ih (rw t at e))
-    go (inr f) ih = absurd (true≢false (sym (ap (λ (x : Answer). eqb (x .number) 0) (rw f at e)) ∙ f))
-
-absorbed-last : (th : Theory) (p : ℕ) → orNext (absorbedRow th p) accept ≡ absorbedRow th p
-unfolding absorbedRow
-absorbed-last th p = go (filled (absorbedIn th))
-  where
-    go : (b : Bool) → orNext (cond b (refuse 12 p) accept) accept ≡ cond b (refuse 12 p) accept
-    go true = refl
-    go false = refl
-
 -- nothing but row 12 is left for the pass to refuse
 pub pass-row : {graph never atomNever out output work output′ work′ : List ℕ} {r : Completed} → Ready graph never atomNever out
     → length output ≡ wordsOf (getD graph 1 0) → length work ≡ 32768 → Completes edition1 graph never atomNever output work output′ work′ r
     → absorbedRow (theoryOf graph) (completedOf r .place) ≡ completedOf r
-unfolding completeAnswer graphAnswer badLengths firstRefusal
-pass-row {graph = graph} {never = never} {atomNever = atomNever} {output = output} {work = work} {r = r} ready ho hw done =
-    let rest = rows-next (graphRows edition1 graph) _ (ready .accepted) in
-    sym (done .answer
-    ∙ rest
-    ∙ rw (eq-eqb (length never) _ (ready .node-words), eq-eqb (length atomNever) _ (ready .atom-words), eq-eqb (length output) _ ho, eq-eqb (length work) _ hw)
-    (absorbed-last (theoryOf graph) (completedOf r .place)))
+unfolding badLengths
+pass-row {graph} {never} {atomNever} {output = output} {work = work} ready ho hw done =
+    let fit : badLengths graph (length never) (length atomNever) (length output) ≡ false =
+    rw (eq-eqb (length never) _ (ready .node-words), eq-eqb (length atomNever) _ (ready .atom-words), eq-eqb (length output) _ ho) in
+    sym (last-row (ready .accepted) fit (work-fits edition1 graph (length work) hw) done)
 
 -- rows 1 to 10 accept, and so the answer is row 12's
 pub answer-row : (graph masks : List ℕ) (p : ℕ) → graphAnswer edition1 graph ≡ accept → badMasks graph masks ≡ false → answer graph masks p ≡ absorbedRow (theoryOf graph) p
 unfolding answer firstRefusal
 answer-row graph masks p e h = rw (e, h) (absorbed-last (theoryOf graph) p)
-
--- ---- the members of a packed set
-
-members-ext : (n : ℕ) (s t : Set) → ((i : ℕ) → i < n → s i ≡ t i) → members n s ≡ members n t
-unfolding members
-members-ext zero s t h = refl
-members-ext (suc n) s t h = rw (h n (omega arith), members-ext n s t (λ i l. h i (omega arith)))
-
-pub members-pack : (n : ℕ) (s : Set) → members n (bitAt (pack n s)) ≡ members n s
-members-pack n s = members-ext n (bitAt (pack n s)) s (λ i l. pack-bit n s i ∙ rw (lt-ltb i n l))
 
 -- ---- the text
 
@@ -113,7 +83,7 @@ print-both p e h t = record { place = p; within = append-within t; exact = sym (
 pub lines-same : (graph never atomNever output : List ℕ) (cycle : Bool) (atoms : ℕ) → cycle ≡ hasCycle (theoryOf graph) → atoms ≡ getD graph 1 0
     → output ≡ pack (getD graph 1 0) (missing (theoryOf graph) (bitAt never) (bitAt atomNever))
     → loopsLine cycle ++ missingLine (members atoms (bitAt output)) ≡ lines graph never atomNever
-lines-same graph never atomNever output cycle atoms ec ea eo = rw (ec, ea, eo, members-pack)
+lines-same graph never atomNever output cycle atoms ec ea eo = rw (ec, ea, eo, missing-list graph (bitAt never) (bitAt atomNever))
 
 -- ---- an accepted graph, and a refused one
 

@@ -57,8 +57,8 @@ reportText input place =
     let masks = masksOf input in
     textBy (answer graph masks place) (lines graph (nodeMask graph masks) (atomMask graph masks))
 
--- the first r bytes of out are the text, and behind it out is as it was (old); the place of a 12, and nothing else, is free among the absorbed nodes of the body cone. `exact` follows
--- from `within`; both are stated so that a caller who lends those r bytes needs no proof.
+-- the first r bytes of out are the text, and behind it out is as it was (old); the place of a 12, and nothing else, is free among the absorbed nodes
+-- of the body cone. `exact` follows from `within`; both are stated so that a caller who lends those r bytes needs no proof.
 pub record Printed (answers : (place : ℕ) → Answer) (both : List ℕ) (th : Theory) (old out : List ℕ) (r : ℕ) : Type 0 where
   pub place : ℕ
   pub within : r ≤ length out

@@ -8,10 +8,10 @@ use Rattle.theory.specs.Edges.{occurrences, vertices, bodyEntries, bodie
 use Rattle.theory.specs.Truth.{holds, truthIn, truth, fires}
 use Rattle.theory.specs.Founded.{hasCycle, cyclic, atomTruth, produced, foundedStep, founded, missing}
 use Rattle.theory.specs.Words.{kindOf, chainIn, chain, theoryOf, bitAt}
-use Rattle.theory.specs.Cases.{absorbedIn, outcome, case, table, Agrees, AllAgree}
+use Rattle.theory.specs.Cases.{absorbedIn, outcome, case, table, Agrees, Every}
 
-pub cases : AllAgree table
-unfolding AllAgree Agrees table case outcome absorbedIn
+pub cases : Every Agrees table
+unfolding Every Agrees table case outcome absorbedIn
     any all member filled anyBelow members has tableFrom grow least reachStep reached
     kindOf chainIn chain theoryOf bitAt joins absorbed
     occurrences vertices bodyEntries bodiesBelow inputs predsBy preds isBody isLeaf coneStep cone bodyCone

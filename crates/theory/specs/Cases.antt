@@ -1,5 +1,5 @@
 -- Cases C1 to C12 of document 01 as one table: the graph's words, both masks, the loop test's answer and the outcome. C10, C11 and C12 have
--- two rows each. That the rules give these answers: proofs/CaseLaws.
+-- two rows each. That the rules give these answers: proofs/CaseLaws; that the calls do: crates/case_answers.
 use mathlib.Core.Path.{_≡_}
 use mathlib.Core.Bool.{Bool, true, false, _&&_, cond}
 use mathlib.Core.List.{List, [], _∷_}
@@ -82,6 +82,7 @@ table =
 unfoldable pub Agrees : Case → Type 0
 Agrees c = (hasCycle (theoryOf (c .words)) ≡ c .cycle) × (outcome (theoryOf (c .words)) (bitAt (c .never)) (bitAt (c .atomNever)) ≡ c .result)
 
-unfoldable pub AllAgree : List Case → Type 0
-AllAgree [] = Unit {0}
-AllAgree (c ∷ cs) = Agrees c × AllAgree cs
+-- every row of a table
+unfoldable pub Every : (Case → Type 0) → List Case → Type 0
+Every P [] = Unit {0}
+Every P (c ∷ cs) = P c × Every P cs
