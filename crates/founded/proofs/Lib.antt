@@ -3,3 +3,4 @@ pub mod OutcomeLaws
 pub mod CallLaws
 pub mod DemandLaws
 pub mod PlaceLaws
+pub mod SameLaws

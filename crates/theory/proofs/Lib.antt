@@ -26,3 +26,4 @@ pub mod PassStartLaws
 pub mod ClosedLaws
 pub mod AlikeLaws
 pub mod ContentLaws
+pub mod CutLaws
