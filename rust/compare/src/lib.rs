@@ -6,6 +6,7 @@
 //! - [`agree`]: one graph compared, with its masks;
 //! - [`ours`]: the proved calls, with the memory lent to them watched;
 //! - [`runs`]: whole families of graphs compared;
+//! - [`programs`]: a program held to the papers' text;
 //! - [`record`]: the recorded list.
 
 pub mod agree;
@@ -15,6 +16,7 @@ pub mod content;
 pub mod damage;
 pub mod edges;
 pub mod ours;
+pub mod programs;
 pub mod random;
 pub mod record;
 pub mod rng;

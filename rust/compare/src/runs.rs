@@ -89,7 +89,7 @@ fn scale(i: u64) -> usize {
 }
 
 /// The generator of number `i` under the seed, for itself alone.
-fn numbered(seed: u64, i: u64) -> Rng {
+pub(crate) fn numbered(seed: u64, i: u64) -> Rng {
     Rng::new(Rng::new(seed.wrapping_add(i)).word())
 }
 
