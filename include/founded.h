@@ -9,8 +9,8 @@
  * Nothing is remembered between calls, and so threads may call at once, each with its own output and work area.
  *
  * A graph is words: edition (1 in 16-bit words, 2 in 32-bit words), A atoms, N nodes, P producers, K links; N nodes of kind, operand, first link; P producers of
- * body + 1 (0 marks a fact), first link; K links of value, next. Atoms, nodes and producers are numbered from 0, links from 1; link 0 ends a chain. Document 01
- * says states, conditions and rules for atoms, nodes and producers.
+ * body + 1 (0 marks a fact), first link; K links of value, next. Atoms, nodes and producers are numbered from 0, links from 1; link 0 ends a chain. docs/FORMAT.md
+ * has the layout, the rules and graphs worked by hand. (The program founded_support takes the atom mask before the node mask; founded_complete takes the node mask first.)
  *
  * Lengths that pass: graph 5 + 3N + 2P + 2K words; never (the node mask) FOUNDED_MASK_WORDS(N); atom_never (the atom mask) and output FOUNDED_MASK_WORDS(A);
  * work FOUNDED_WORK_WORDS in edition 1, and in edition 2 what founded_wide_work_words gives for the graph. Every other length is an answer: 1 or 3 of the graph,
@@ -54,7 +54,7 @@
 #define FOUNDED_WIDE_NUMBER(code) ((uint32_t)((uint64_t)(code) >> (32 * FOUNDED_IF_BYTES(code, 8))))
 #define FOUNDED_WIDE_PLACE(code) ((uint32_t)((uint64_t)(code) & (0xffffffffu * FOUNDED_IF_BYTES(code, 8))))
 
-/* The numbers, in document 01's words, and edition 2's numbers. Where no place is named it is 0. */
+/* The numbers, as in the table of docs/FORMAT.md, for both editions. Where no place is named it is 0. */
 enum founded_refusal {
     FOUNDED_NO_REFUSAL = 0,
     FOUNDED_EDITION = 1,   /* fewer than 5 words, or edition not 1; in 32-bit words, edition not 2 */
@@ -70,7 +70,7 @@ enum founded_refusal {
     FOUNDED_LENGTHS = 10,  /* the node mask isn't FOUNDED_MASK_WORDS(N) words long, or the atom mask or the output isn't FOUNDED_MASK_WORDS(A) */
     FOUNDED_WORK = 11,     /* the work area is not exactly 32,768 16-bit words; in edition 2 not exactly 16(A + N + P + 1) + 4(leaf entries + head entries)
                               32-bit words */
-    FOUNDED_ABSORBED = 12  /* the body cone (document 01: the first cone) holds a node of kind 7. Place: one such node */
+    FOUNDED_ABSORBED = 12  /* the body cone holds a node of kind 7. Place: one such node */
 };
 
 #ifdef __cplusplus

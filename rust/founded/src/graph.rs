@@ -14,7 +14,7 @@ pub type Graph = GraphOf<u16>;
 pub type WideGraph = GraphOf<u32>;
 
 impl<W: Word> GraphOf<W> {
-    /// Words as document 01 lays them out.
+    /// Words as docs/FORMAT.md lays them out.
     ///
     /// # Errors
     /// The first of refusals 1 to 9 that applies.

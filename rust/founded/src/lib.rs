@@ -1,6 +1,6 @@
-//! The founded-support check: which atoms only hold each other up. The calls are proved, in Rattle, to answer as document 01 says on every input;
-//! this crate links them (`rt staticlib abi` makes the archive) and adds types. Document 01 says states, conditions and rules where this crate, as the
-//! Rust, says atoms, nodes and producers.
+//! The founded-support check: which atoms only hold each other up. The calls are proved, in Rattle, to answer on every input as docs/FORMAT.md says;
+//! this crate links them (`rt staticlib abi` makes the archive) and adds types. Atoms, nodes and producers are the states, conditions and rules
+//! of a plan.
 //!
 //! The heater is on because the warm-bus latch is set, and the latch is set because the heater is on. Nothing else holds either up, so both are missing:
 //!
@@ -74,7 +74,7 @@
 //! - [`Solver`] owns the work area and the output and runs the loop test, the preparation and the pass.
 //! - [`check`], [`needed`], [`prepare`] and [`complete`], here and in [`wide`], are the four calls over plain slices, for callers that keep their own memory.
 //! - [`raw`] has them as the archive does.
-//! - A call is turned away by a [`Refusal`], with document 01's number and place.
+//! - A call is turned away by a [`Refusal`], with the number and place of docs/FORMAT.md's table.
 
 mod calls;
 mod error;

@@ -3,7 +3,7 @@ use std::fmt;
 
 use crate::{NodeId, ProducerId};
 
-/// A call turned away: one case for each number of document 01's table, "Where a call is turned away". Of several that apply a call gives the first
+/// A call turned away: one case for each number of the table "Refusals" in docs/FORMAT.md. Of several that apply a call gives the first
 /// in the table's order. In refusals 1, 2, 9 and 11 each edition has its own numbers.
 #[derive(Clone, Copy, Debug, PartialEq, Eq, Hash)]
 #[non_exhaustive]
@@ -30,7 +30,7 @@ pub enum Refusal {
     Lengths,
     /// 11: the work area is not exactly 32,768 words; in edition 2 not exactly [`wide::work_words`](crate::wide::work_words).
     Work,
-    /// 12: the body cone (document 01: the first cone) holds an absorbed node. One such node.
+    /// 12: the body cone holds an absorbed node. One such node.
     Absorbed(NodeId),
 }
 
@@ -55,7 +55,7 @@ impl Refusal {
         })
     }
 
-    /// The number in document 01's table, 1 to 12.
+    /// The number in the table, 1 to 12.
     #[must_use]
     pub fn number(self) -> u16 {
         match self {
@@ -90,7 +90,7 @@ impl Refusal {
         }
     }
 
-    /// Document 01's words for the number, then edition 2's numbers. Its conditions are our nodes, its rules our producers.
+    /// What the number says, with edition 1's numbers and then edition 2's.
     fn words(self) -> &'static str {
         match self {
             Self::Edition => "fewer than 5 words, or edition not 1 (in 32-bit words: not 2)",
@@ -105,7 +105,7 @@ impl Refusal {
             Self::Link(_) => {
                 "next is above K, or is neither 0 nor greater than the link's own number"
             }
-            Self::Leaf(_) => "a leaf not below its own condition's number",
+            Self::Leaf(_) => "a leaf not below its own node's number",
             Self::Head(_) => "a head not below A",
             Self::Entries => {
                 "more than 4,096 leaf entries or more than 4,096 head entries (edition 2: more than 1,048,576)"
@@ -116,7 +116,7 @@ impl Refusal {
             Self::Work => {
                 "not exactly 32,768 16-bit words (edition 2: 16·(A + N + P + 1) + 4·(leaf entries + head entries) 32-bit words)"
             }
-            Self::Absorbed(_) => "the first cone holds a condition of kind 7",
+            Self::Absorbed(_) => "the body cone holds a node of kind 7",
         }
     }
 }

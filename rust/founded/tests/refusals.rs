@@ -281,6 +281,6 @@ fn every_number_is_a_case() {
     }
     assert_eq!(Refusal::of(0, 0), None);
     assert_eq!(Refusal::of(13, 0), None);
-    let said = "refused 12 1: the first cone holds a condition of kind 7";
+    let said = "refused 12 1: the body cone holds a node of kind 7";
     assert_eq!(Refusal::Absorbed(NodeId(1)).to_string(), said);
 }
