@@ -11,11 +11,11 @@ use lib.ListN.{length, getD}
 use Rattle.theory.specs.Words.{theoryOf}
 use Rattle.theory.specs.Accepted.{Edition, areaOf}
 use Rattle.theory.specs.Founded.{hasCycle}
-use Rattle.graph.specs.Answer.{Answer, accept, refuse, refuseIf}
-use Rattle.graph.specs.Refusals.{graphAnswer, answerOf}
-use Rattle.graph.specs.declared.Checked.{Checked}
-use Rattle.graph.specs.declared.Checked.the-variants.{Accepted}
-use Rattle.graph.proofs.PlaceLaws.{if-place, or-place, graph-place}
+use Rattle.refusals.specs.Answer.{Answer, accept, refuse, refuseIf}
+use Rattle.refusals.specs.Refusals.{graphAnswer, answerOf}
+use Rattle.refusals.specs.declared.Checked.{Checked}
+use Rattle.refusals.specs.declared.Checked.the-variants.{Accepted}
+use Rattle.refusals.proofs.PlaceLaws.{if-place, or-place, graph-place}
 use Rattle.cycles.specs.Outcome.{Outcome, refused, loops, refusal, outcome, workAfter, ClosedWalk}
 use Rattle.founded.proofs.OutcomeLaws.{graph-number}
 use Rattle.abi.specs.Codes.{Tells, NeedTells, Placed, Needed, workWords}

@@ -8,8 +8,8 @@ use Prim.Native.Nat.{ℕ, _+_, _*_, _<_}
 use lib.Dec.{eqb}
 use Rattle.theory.specs.Words.{theoryOf}
 use Rattle.theory.specs.Accepted.{Edition, areaOf}
-use Rattle.graph.specs.Answer.{Answer}
-use Rattle.graph.specs.Refusals.{graphAnswer}
+use Rattle.refusals.specs.Answer.{Answer}
+use Rattle.refusals.specs.Refusals.{graphAnswer}
 use Rattle.cycles.specs.Outcome.{Outcome, refused, loops, refusal, outcome, workAfter, ClosedWalk}
 use Rattle.founded.specs.Answers.{preparedOf, completedOf, Prepares, Completes}
 use Rattle.founded.specs.declared.Prepared.{Prepared}

@@ -5,15 +5,15 @@ mod wide;
 
 ghost use Prim.Native.Nat.{_<_};
 ghost use Rattle.theory.specs.Accepted.{edition1};
-ghost use Rattle.graph.specs.Answer.{refuse};
-ghost use Rattle.graph.specs.Refusals.{graphAnswer, answerOf};
+ghost use Rattle.refusals.specs.Answer.{refuse};
+ghost use Rattle.refusals.specs.Refusals.{graphAnswer, answerOf};
 ghost use Rattle.cycles.specs.Outcome.{outcomeOf};
 ghost use Rattle.founded.specs.Answers.{preparedOf, completedOf};
 ghost use Rattle.abi.specs.Codes.{Tells, NeedTells, Placed, Needed, PreparedAs, CompletedAs};
 use cycles::Need;
 use founded::Completed;
 use founded::Prepared;
-use graph::Checked;
+use refusals::Checked;
 
 // A refusal's code.
 fn code(number: usize, place: usize) -> u32
@@ -67,7 +67,7 @@ fn completed_code(c: Completed) -> u32
 pub extern "C" fn founded_check(graph: &[u16]) -> u32
     ensures { λ r. ⌜ Tells 65536 (graphAnswer edition1 (now (graph .entry))) r ⌝ }
 {
-    checked_code(graph::check(graph))
+    checked_code(checking::check(graph))
 }
 
 // The loop test.

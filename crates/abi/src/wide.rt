@@ -2,15 +2,15 @@
 // The calls on graphs of edition 2.
 ghost use Prim.Native.Nat.{_<_};
 ghost use Rattle.theory.specs.Accepted.{edition2};
-ghost use Rattle.graph.specs.Answer.{refuse};
-ghost use Rattle.graph.specs.Refusals.{graphAnswer, answerOf};
+ghost use Rattle.refusals.specs.Answer.{refuse};
+ghost use Rattle.refusals.specs.Refusals.{graphAnswer, answerOf};
 ghost use Rattle.cycles.specs.Outcome.{outcomeOf};
 ghost use Rattle.founded.specs.Answers.{preparedOf, completedOf};
 ghost use Rattle.abi.specs.Codes.{Tells, NeedTells, Placed, Needed, PreparedAs, CompletedAs};
 use cycles::Need;
 use founded::Completed;
 use founded::Prepared;
-use graph::Checked;
+use refusals::Checked;
 
 // A refusal's code.
 fn code(number: usize, place: usize) -> u64
@@ -64,7 +64,7 @@ fn completed_code(c: Completed) -> u64
 pub extern "C" fn founded_wide_check(graph: &[u32]) -> u64
     ensures { λ r. ⌜ Tells 4294967296 (graphAnswer edition2 (now (graph .entry))) r ⌝ }
 {
-    checked_code(graph32::check(graph))
+    checked_code(checking32::check(graph))
 }
 
 // The loop test.

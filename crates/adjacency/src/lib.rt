@@ -4,7 +4,8 @@ ghost use mathlib.Core.Path.{_≡_};
 ghost use mathlib.Core.List.{[], _∷_};
 ghost use Prim.Native.Nat.{_+_, _<_, _≤_};
 ghost use lib.ListN.{length};
-ghost use Rattle.theory.specs.Words.{chain, Ending, theoryOf};
+ghost use Rattle.theory.specs.Words.{chain, theoryOf};
+ghost use Rattle.theory.specs.Links.{MeetsOnce};
 ghost use Rattle.theory.specs.Accepted.{Accepted, edition1};
 ghost use Rattle.theory.specs.Rows.{edge, tagged, bodyKeys, atomKeys};
 ghost use Rattle.theory.specs.Drive.{Follows, Drives};
@@ -42,15 +43,15 @@ fn place_chain(
     first: usize,
     item: usize,
 )
-    requires { ⌜ Accepted edition1 (now graph) × Ending (now graph) first ⌝ }
+    requires { ⌜ Accepted edition1 (now graph) × MeetsOnce (now graph) first ⌝ }
     requires { ⌜ Follows (Building 65536 filling rows) (now part) 0 (tagged item (chain (now graph) first)) ⌝ }
     ensures { λ _. ⌜ Drives (Building 65536 filling rows) 0 (now (part .entry)) 0 (tagged item (chain (now (graph .entry)) first)) (now (part .exit)) 0 [] ⌝ }
 {
-    let links = graph::link_records(graph);
+    let from = graph::links_from(graph);
     let mut l = first;
     while l > 0 {
-        let row = graph::value(links, l);
-        l = graph::next(links, l);
+        let row = graph::value(graph, from, l);
+        l = graph::next(graph, from, l);
         place(part, rows, filling, row, item);
     }
 }

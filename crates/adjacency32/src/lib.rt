@@ -5,7 +5,8 @@ ghost use mathlib.Core.Path.{_≡_};
 ghost use mathlib.Core.List.{[], _∷_};
 ghost use Prim.Native.Nat.{_+_, _<_, _≤_};
 ghost use lib.ListN.{length};
-ghost use Rattle.theory.specs.Words.{chain, Ending, theoryOf};
+ghost use Rattle.theory.specs.Words.{chain, theoryOf};
+ghost use Rattle.theory.specs.Links.{MeetsOnce};
 ghost use Rattle.theory.specs.Accepted.{Accepted, edition2};
 ghost use Rattle.theory.specs.Rows.{edge, tagged, bodyKeys, atomKeys};
 ghost use Rattle.theory.specs.Drive.{Follows, Drives};
@@ -36,15 +37,15 @@ fn place_chain(
     first: usize,
     item: usize,
 )
-    requires { ⌜ Accepted edition2 (now graph) × Ending (now graph) first ⌝ }
+    requires { ⌜ Accepted edition2 (now graph) × MeetsOnce (now graph) first ⌝ }
     requires { ⌜ Follows (Building 4294967296 filling rows) (now part) 0 (tagged item (chain (now graph) first)) ⌝ }
     ensures { λ _. ⌜ Drives (Building 4294967296 filling rows) 0 (now (part .entry)) 0 (tagged item (chain (now (graph .entry)) first)) (now (part .exit)) 0 [] ⌝ }
 {
-    let links = graph32::link_records(graph);
+    let from = graph32::links_from(graph);
     let mut l = first;
     while l > 0 {
-        let row = graph32::value(links, l);
-        l = graph32::next(links, l);
+        let row = graph32::value(graph, from, l);
+        l = graph32::next(graph, from, l);
         place(part, rows, filling, row, item);
     }
 }

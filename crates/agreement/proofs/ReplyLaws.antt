@@ -10,7 +10,7 @@ use lib.ListN.{length, take}
 use borrow.Author.Tests.{eq-eqb, eqb-true}
 use Rattle.theory.specs.Sets.{Mem}
 use Rattle.theory.proofs.SetLaws.{clash}
-use Rattle.graph.specs.Answer.{Answer, refuse}
+use Rattle.refusals.specs.Answer.{Answer, refuse}
 use Rattle.abi.specs.Codes.{codeOf, Tells}
 use Rattle.report.specs.Report.{reportText, Reported}
 use Rattle.agreement.specs.Agreement.{rightPlaces, rightOutput, rightWork, Agrees, ProgramAgrees}

@@ -10,8 +10,8 @@ use Rattle.theory.specs.Sets.{Mem}
 use Rattle.theory.specs.Words.{theoryOf}
 use Rattle.theory.specs.Accepted.{edition1}
 use Rattle.theory.specs.Cases.{absorbedIn}
-use Rattle.graph.specs.Answer.{refuse}
-use Rattle.graph.specs.Refusals.{graphAnswer}
+use Rattle.refusals.specs.Answer.{refuse}
+use Rattle.refusals.specs.Refusals.{graphAnswer}
 use Rattle.input.specs.Input.{graphOf, masksOf}
 use Rattle.report.specs.Report.{answer as programAnswer, reportText}
 use Rattle.abi.specs.Codes.{codeOf, Needed, PreparedAs, CompletedAs}

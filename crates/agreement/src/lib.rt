@@ -6,7 +6,7 @@ ghost use mathlib.Core.Bool.{true};
 ghost use mathlib.Core.Logic.{_↔_};
 ghost use lib.ListN.{length};
 ghost use Rattle.theory.specs.Sets.{Mem};
-ghost use Rattle.graph.specs.Answer.{refuse};
+ghost use Rattle.refusals.specs.Answer.{refuse};
 ghost use Rattle.abi.specs.Codes.{codeOf};
 ghost use Rattle.agreement.specs.Agreement.{rightPlaces, rightOutput, rightWork, Agrees, neededCode, CheckAgrees, NeededAgrees, PrepareAgrees, CompleteAgrees, ProgramAgrees};
 

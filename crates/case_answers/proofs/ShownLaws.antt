@@ -9,6 +9,7 @@ use borrow.Author.Tests.{eq-eqb}
 use lib.ListN.{length, getD}
 use Rattle.theory.specs.Sets.{Is, any, filled, sumBelow}
 use Rattle.theory.specs.Theory.{joins}
+use Rattle.theory.specs.Links.{after, linkAfter, comesBack}
 use Rattle.theory.specs.Words.{kindOf, chainIn, chain, theoryOf, bitAt}
 use Rattle.theory.specs.Accepted.{edition1}
 use Rattle.theory.specs.Cases.{Outcome, absorbedIn, outcome, Case, case, table, Agrees, Every}
@@ -16,8 +17,8 @@ use Rattle.theory.proofs.CaseLaws.{cases}
 use Rattle.theory.proofs.SetLaws.{bool-cases}
 use Rattle.mask.specs.Mask.{wordsOf}
 use Rattle.graph.specs.Kinds.{takesOperand}
-use Rattle.graph.specs.Answer.{Answer, accept, refuse, refuseFirst, firstRefusal}
-use Rattle.graph.specs.Refusals.{badEdition, badCounts, badEntries, badOperand, badFirst, badRecord, badBody, badNext, badSize, graphRows, graphAnswer}
+use Rattle.refusals.specs.Answer.{Answer, accept, refuse, refuseFirst, firstRefusal}
+use Rattle.refusals.specs.Refusals.{badEdition, badCounts, badEntries, badOperand, badFirst, badRecord, badBody, badNext, badSize, graphRows, graphAnswer}
 use Rattle.founded.specs.Answers.{completedOf, badLengths, absorbedRow, Completes}
 use Rattle.founded.specs.declared.Completed.{Completed}
 use Rattle.founded.proofs.CallLaws.{last-row, work-fits}
@@ -31,7 +32,7 @@ Accepts c = (graphAnswer edition1 (lent c) ≡ accept) × (badLengths (lent c) (
 accepts : Every Accepts table
 unfolding Every Accepts table case
     any filled sumBelow joins kindOf chainIn chain theoryOf takesOperand refuseFirst firstRefusal
-    badEdition badCounts badEntries badOperand badFirst badRecord badBody badNext badSize graphRows graphAnswer badLengths
+    after linkAfter comesBack badEdition badCounts badEntries badOperand badFirst badRecord badBody badNext badSize graphRows graphAnswer badLengths
 accepts =
     ((refl, refl), ((refl, refl), ((refl, refl), ((refl, refl), ((refl, refl), ((refl, refl), ((refl, refl), ((refl, refl), ((refl, refl), ((refl, refl), ((refl, refl), ((refl, refl), ((refl, refl), ((refl, refl), ((refl, refl), tt)))))))))))))))
 

@@ -9,7 +9,7 @@ use Rattle.theory.specs.Words.{bitAt}
 use Rattle.theory.specs.Accepted.{edition1}
 use Rattle.theory.specs.Cases.{Outcome, lists, refused, Case}
 use Rattle.mask.specs.Mask.{wordsOf}
-use Rattle.graph.specs.Answer.{Answer, accept}
+use Rattle.refusals.specs.Answer.{Answer, accept}
 use Rattle.cycles.specs.Outcome.{loops, outcome}
 use Rattle.founded.specs.Answers.{completedOf, Completes}
 use Rattle.founded.specs.declared.Completed.{Completed}

@@ -49,12 +49,12 @@ fn collect_heads(graph: &[u16], work: &mut [u16], b: Bases, p: usize, tail: usiz
     requires { ⌜ Follows (Gathering 65536 b) (now work) tail (theoryOf (now graph) .heads p) ⌝ }
     ensures { λ r. ⌜ Drives (Gathering 65536 b) (b .states) (now (work .entry)) tail (theoryOf (now (graph .entry)) .heads p) (now (work .exit)) r [] ⌝ }
 {
-    let links = graph::link_records(graph);
+    let from = graph::links_from(graph);
     let mut t = tail;
     let mut l = graph::first_head(graph, p);
     while l > 0 {
-        let v = graph::value(links, l);
-        l = graph::next(links, l);
+        let v = graph::value(graph, from, l);
+        l = graph::next(graph, from, l);
         t = collect(work, b, v, t);
     }
     t

@@ -9,23 +9,24 @@ use borrow.Author.Tests.{lt-ltb}
 use lib.Dec.{eqb, ltb}
 use lib.ListN.{getD}
 use Rattle.theory.specs.Sets.{Mem, any, filled}
-use Rattle.theory.specs.Words.{producerAt, valueOf, nextOf, chain, Ending, theoryOf}
+use Rattle.theory.specs.Words.{producerAt, valueOf, nextOf, chain, theoryOf}
+use Rattle.theory.specs.Links.{MeetsOnce}
 use Rattle.theory.specs.Founded.{cyclic}
 use Rattle.theory.specs.Accepted.{Edition, Accepted}
 use Rattle.theory.proofs.SetLaws.{or-none, or-assoc, same-test, eq-is, is-eq}
-use Rattle.theory.proofs.ChainLaws.{ending-next, chain-end, chain-step}
+use Rattle.theory.proofs.ChainLaws.{once-next, chain-end, chain-step}
 use Rattle.graph.proofs.DecodeLaws.{the-heads}
 use Rattle.area.specs.declared.Bases.{Bases}
 use Rattle.cones.specs.Cones.{picked, wantedBy, Flagged}
 
 -- on the way along the chain from link `first`, at link l: whether a cyclic head was found so far
 pub record Heads (ws : List ℕ) (first l : ℕ) (found : Bool) : Type 0 where
-  pub ending : Ending ws l
+  pub once : MeetsOnce ws l
   pub low : (a : ℕ) → Mem a (chain ws l) → a < theoryOf ws .atoms
   pub left : found || any (cyclic (theoryOf ws)) (chain ws l) ≡ any (cyclic (theoryOf ws)) (chain ws first)
 
-pub heads-start : {ws : List ℕ} {first : ℕ} → Ending ws first → ((a : ℕ) → Mem a (chain ws first) → a < theoryOf ws .atoms) → Heads ws first first false
-heads-start e low = record { ending = e; low = low; left = refl }
+pub heads-start : {ws : List ℕ} {first : ℕ} → MeetsOnce ws first → ((a : ℕ) → Mem a (chain ws first) → a < theoryOf ws .atoms) → Heads ws first first false
+heads-start e low = record { once = e; low = low; left = refl }
 
 module _ {ws : List ℕ} {first l : ℕ} {found : Bool} (h : Heads ws first l found) where
   pub heads-end : l ≡ 0 → found ≡ any (cyclic (theoryOf ws)) (chain ws first)
@@ -34,7 +35,7 @@ module _ {ws : List ℕ} {first l : ℕ} {found : Bool} (h : Heads ws first l fo
 
   module _ (z : l ≡ 0 → ⊥) where
     pub head-low : valueOf ws l < theoryOf ws .atoms
-    head-low = h .low (valueOf ws l) (rw (chain-step ws (h .ending) z) (List·Memᴰ·head refl))
+    head-low = h .low (valueOf ws l) (rw (chain-step ws (h .once) z) (List·Memᴰ·head refl))
 
     -- x: the next head; f: its flag
     module _ (b : Bases) (w : List ℕ) (flagged : Flagged (theoryOf ws) b w) {x f : ℕ} (ex : x ≡ valueOf ws l) (ef : f ≡ getD w (b .«cyclic_atoms» + x) 0) where
@@ -44,19 +45,19 @@ module _ {ws : List ℕ} {first l : ℕ} {found : Bool} (h : Heads ws first l fo
       pub heads-next : {y : ℕ} → y ≡ nextOf ws l → Heads ws first y (found || eqb f 1)
       unfolding any
       heads-next ey = rw ey (record {
-        ending = ending-next ws (h .ending) z;
-        low = λ a i. h .low a (rw (chain-step ws (h .ending) z) (List·Memᴰ·tail i));
+        once = once-next ws (h .once) z;
+        low = λ a i. h .low a (rw (chain-step ws (h .once) z) (List·Memᴰ·tail i));
         left =
             or-assoc found (eqb f 1) (any (cyclic (theoryOf ws)) (chain ws (nextOf ws l)))
             ∙ ap (λ (t : Bool). found || (t || any (cyclic (theoryOf ws)) (chain ws (nextOf ws l)))) test
-            ∙ ap (λ (x : List ℕ). found || any (cyclic (theoryOf ws)) x) (sym (chain-step ws (h .ending) z))
+            ∙ ap (λ (x : List ℕ). found || any (cyclic (theoryOf ws)) x) (sym (chain-step ws (h .once) z))
             ∙ h .left;
       })
 
 -- the heads of producer p, whose chain begins at link `first`
 module _ (ws : List ℕ) (p : ℕ) {first : ℕ} (e : first ≡ getD ws (producerAt ws p + 1) 0) where
   module _ {ed : Edition} (acc : Accepted ed ws) (h : p < theoryOf ws .producers) where
-    pub heads-of : Ending ws first × ((a : ℕ) → Mem a (chain ws first) → a < theoryOf ws .atoms)
+    pub heads-of : MeetsOnce ws first × ((a : ℕ) → Mem a (chain ws first) → a < theoryOf ws .atoms)
     unfolding theoryOf
     heads-of = rw e (acc .head-chain p h, λ a i. acc .well-formed .head-low p a h i)
 

@@ -10,7 +10,8 @@ use lib.ListN.{length, getD, set, drop, length-set, length-take, length-drop}
 use lib.Seq.{getD-set-same, getD-set-other, take-set-le, drop-set-lt}
 use Rattle.theory.specs.Sets.{Is, Set, Mem, member}
 use Rattle.theory.specs.Theory.{Theory, joins}
-use Rattle.theory.specs.Words.{nodeAt, chain, Ending, theoryOf}
+use Rattle.theory.specs.Words.{nodeAt, chain, theoryOf}
+use Rattle.theory.specs.Links.{MeetsOnce}
 use Rattle.theory.specs.Accepted.{Edition, Accepted}
 use Rattle.theory.specs.Edges.{cone}
 use Rattle.theory.specs.Drive.{Follows, Drives}
@@ -156,9 +157,9 @@ module _ {lim : ℕ} {ed : Edition} {ws : List ℕ} (acc : Accepted ed ws) {b : 
       longer = let k = s .laid in let h = s .ends in let r = s .room in rw e (list-step (b .«body_nodes») next w (omega arith))
 
   module _ {first : ℕ} (at : first ≡ getD ws (nodeAt n + 2) 0) where
-    pub leaves-ending : Ending ws first
+    pub leaves-once : MeetsOnce ws first
     unfolding theoryOf
-    leaves-ending = rw at (acc .leaf-chain n next-low)
+    leaves-once = rw at (acc .leaf-chain n next-low)
 
     same : chain ws first ≡ theoryOf ws .leaves n
     same = rw at (sym (the-leaves ws n))

@@ -8,7 +8,8 @@ ghost use lib.ListN.{length};
 ghost use Rattle.theory.specs.Sets.{Mem, any};
 ghost use Rattle.theory.specs.Theory.{absorbed};
 ghost use Rattle.theory.specs.Founded.{cyclic};
-ghost use Rattle.theory.specs.Words.{chain, Ending, theoryOf};
+ghost use Rattle.theory.specs.Words.{chain, theoryOf};
+ghost use Rattle.theory.specs.Links.{MeetsOnce};
 ghost use Rattle.theory.specs.Edges.{cone, bodyCone};
 ghost use Rattle.theory.specs.Accepted.{Accepted, edition1};
 ghost use Rattle.theory.specs.Drive.{Follows, Drives};
@@ -32,15 +33,15 @@ pub enum Coned {
 // Whether a chain of heads has a cyclic one. It is gone along to its end: which head is the first cyclic one cannot be foreseen.
 fn cyclic_head(graph: &[u16], work: &[u16], b: Bases, first: usize) -> bool
     requires { ⌜ Accepted edition1 (now graph) × Based (now graph) (length (now work)) b × Flagged (theoryOf (now graph)) b (now work) ⌝ }
-    requires { ⌜ Ending (now graph) first × ((a : ℕ) → Mem a (chain (now graph) first) → a < theoryOf (now graph) .atoms) ⌝ }
+    requires { ⌜ MeetsOnce (now graph) first × ((a : ℕ) → Mem a (chain (now graph) first) → a < theoryOf (now graph) .atoms) ⌝ }
     ensures { λ r. ⌜ r ≡ any (cyclic (theoryOf (now (graph .entry)))) (chain (now (graph .entry)) first) ⌝ }
 {
-    let links = graph::link_records(graph);
+    let from = graph::links_from(graph);
     let mut found = false;
     let mut l = first;
     while l > 0 {
-        let a = graph::value(links, l);
-        l = graph::next(links, l);
+        let a = graph::value(graph, from, l);
+        l = graph::next(graph, from, l);
         found = found | (graph::at(work, b.cyclic_atoms + a) == 1);
     }
     found
@@ -73,16 +74,16 @@ fn include(work: &mut [u16], b: Bases, n: usize, count: usize) -> usize
 
 // The leaves along a chain.
 fn include_chain(graph: &[u16], work: &mut [u16], b: Bases, first: usize, count: usize) -> usize
-    requires { ⌜ Accepted edition1 (now graph) × Ending (now graph) first ⌝ }
+    requires { ⌜ Accepted edition1 (now graph) × MeetsOnce (now graph) first ⌝ }
     requires { ⌜ Follows (Searching 65536 b) (now work) count (chain (now graph) first) ⌝ }
     ensures { λ r. ⌜ Drives (Searching 65536 b) (b .states) (now (work .entry)) count (chain (now (graph .entry)) first) (now (work .exit)) r [] ⌝ }
 {
-    let links = graph::link_records(graph);
+    let from = graph::links_from(graph);
     let mut t = count;
     let mut l = first;
     while l > 0 {
-        let v = graph::value(links, l);
-        l = graph::next(links, l);
+        let v = graph::value(graph, from, l);
+        l = graph::next(graph, from, l);
         t = include(work, b, v, t);
     }
     t

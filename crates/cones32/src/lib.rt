@@ -9,7 +9,8 @@ ghost use lib.ListN.{length};
 ghost use Rattle.theory.specs.Sets.{Mem, any};
 ghost use Rattle.theory.specs.Theory.{absorbed};
 ghost use Rattle.theory.specs.Founded.{cyclic};
-ghost use Rattle.theory.specs.Words.{chain, Ending, theoryOf};
+ghost use Rattle.theory.specs.Words.{chain, theoryOf};
+ghost use Rattle.theory.specs.Links.{MeetsOnce};
 ghost use Rattle.theory.specs.Edges.{cone, bodyCone};
 ghost use Rattle.theory.specs.Accepted.{Accepted, edition2};
 ghost use Rattle.theory.specs.Drive.{Follows, Drives};
@@ -23,15 +24,15 @@ use cones::Coned;
 // Whether a chain of heads has a cyclic one. It is gone along to its end: which head is the first cyclic one cannot be foreseen.
 fn cyclic_head(graph: &[u32], work: &[u32], b: Bases, first: usize) -> bool
     requires { ⌜ Accepted edition2 (now graph) × Based (now graph) (length (now work)) b × Flagged (theoryOf (now graph)) b (now work) ⌝ }
-    requires { ⌜ Ending (now graph) first × ((a : ℕ) → Mem a (chain (now graph) first) → a < theoryOf (now graph) .atoms) ⌝ }
+    requires { ⌜ MeetsOnce (now graph) first × ((a : ℕ) → Mem a (chain (now graph) first) → a < theoryOf (now graph) .atoms) ⌝ }
     ensures { λ r. ⌜ r ≡ any (cyclic (theoryOf (now (graph .entry)))) (chain (now (graph .entry)) first) ⌝ }
 {
-    let links = graph32::link_records(graph);
+    let from = graph32::links_from(graph);
     let mut found = false;
     let mut l = first;
     while l > 0 {
-        let a = graph32::value(links, l);
-        l = graph32::next(links, l);
+        let a = graph32::value(graph, from, l);
+        l = graph32::next(graph, from, l);
         found = found | (graph32::at(work, b.cyclic_atoms + a) == 1);
     }
     found
@@ -64,16 +65,16 @@ fn include(work: &mut [u32], b: Bases, n: usize, count: usize) -> usize
 
 // The leaves along a chain.
 fn include_chain(graph: &[u32], work: &mut [u32], b: Bases, first: usize, count: usize) -> usize
-    requires { ⌜ Accepted edition2 (now graph) × Ending (now graph) first ⌝ }
+    requires { ⌜ Accepted edition2 (now graph) × MeetsOnce (now graph) first ⌝ }
     requires { ⌜ Follows (Searching 4294967296 b) (now work) count (chain (now graph) first) ⌝ }
     ensures { λ r. ⌜ Drives (Searching 4294967296 b) (b .states) (now (work .entry)) count (chain (now (graph .entry)) first) (now (work .exit)) r [] ⌝ }
 {
-    let links = graph32::link_records(graph);
+    let from = graph32::links_from(graph);
     let mut t = count;
     let mut l = first;
     while l > 0 {
-        let v = graph32::value(links, l);
-        l = graph32::next(links, l);
+        let v = graph32::value(graph, from, l);
+        l = graph32::next(graph, from, l);
         t = include(work, b, v, t);
     }
     t

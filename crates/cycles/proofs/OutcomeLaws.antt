@@ -12,10 +12,10 @@ use Rattle.theory.specs.Founded.{hasCycle}
 use Rattle.theory.specs.Words.{theoryOf}
 use Rattle.theory.specs.Accepted.{Edition, areaOf}
 use Rattle.theory.proofs.CycleLaws.{hasCycle-walk}
-use Rattle.graph.specs.Answer.{Answer, accept, refuse, refuseIf, orNext}
-use Rattle.graph.specs.Refusals.{graphAnswer, answerOf}
-use Rattle.graph.specs.declared.Checked.{Checked}
-use Rattle.graph.specs.declared.Checked.the-variants.{Accepted, Edition as EditionRefused, Counts, Size, Node, Producer, Link, Leaf, Head, Entries}
+use Rattle.refusals.specs.Answer.{Answer, accept, refuse, refuseIf, orNext}
+use Rattle.refusals.specs.Refusals.{graphAnswer, answerOf}
+use Rattle.refusals.specs.declared.Checked.{Checked}
+use Rattle.refusals.specs.declared.Checked.the-variants.{Accepted, Edition as EditionRefused, Counts, Size, Node, Producer, Link, Back, Leaf, Head, Entries}
 use Rattle.cycles.specs.declared.Need.{Need}
 use Rattle.cycles.specs.declared.Need.the-variants.{Refused, Work}
 use Rattle.cycles.specs.Outcome.{refused, loops, outcomeOf, refusal, outcome, workAfter, ClosedWalk}
@@ -56,6 +56,7 @@ module _ (ed : Edition) (ws w : List ℕ) where
       number (Node k) n = refl
       number (Producer k) n = refl
       number (Link k) n = refl
+      number (Back k) n = refl
       number (Leaf k) n = refl
       number (Head k) n = refl
       number Entries n = refl

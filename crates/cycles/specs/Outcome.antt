@@ -11,8 +11,8 @@ use Rattle.theory.specs.Edges.{vertices, preds}
 use Rattle.theory.specs.Founded.{hasCycle}
 use Rattle.theory.specs.Words.{theoryOf}
 use Rattle.theory.specs.Accepted.{Edition, areaOf}
-use Rattle.graph.specs.Answer.{Answer, refuse, refuseIf, orNext}
-use Rattle.graph.specs.Refusals.{graphAnswer, answerOf}
+use Rattle.refusals.specs.Answer.{Answer, refuse, refuseIf, orNext}
+use Rattle.refusals.specs.Refusals.{graphAnswer, answerOf}
 use Rattle.cycles.specs.declared.Need.{Need}
 use Rattle.cycles.specs.declared.Need.the-variants.{No, Yes, Refused, Work}
 

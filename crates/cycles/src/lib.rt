@@ -16,7 +16,7 @@ ghost use Rattle.cycles.specs.Held.{Started, Counting, Looked};
 ghost use Rattle.cycles.specs.Outcome.{loops, outcomeOf, outcome, workAfter, ClosedWalk};
 use adjacency::Table;
 use area::Bases;
-use graph::Checked;
+use refusals::Checked;
 
 // How many edges lead to node n: one from its operand, or one from each leaf.
 fn degree(graph: &[u16], n: usize) -> usize
@@ -49,11 +49,11 @@ fn count_heads(graph: &[u16], work: &mut [u16], b: Bases, p: usize)
     if graph::body(graph, p) == 0 {
         return;
     }
-    let links = graph::link_records(graph);
+    let from = graph::links_from(graph);
     let mut l = graph::first_head(graph, p);
     while l > 0 {
-        let v = graph::value(links, l);
-        l = graph::next(links, l);
+        let v = graph::value(graph, from, l);
+        l = graph::next(graph, from, l);
         counters::add(work, b.dependencies + v, 1);
     }
 }
@@ -138,7 +138,7 @@ pub fn needed(graph: &[u16], work: &mut [u16]) -> Need
     ensures { λ _. ⌜ now (work .exit) ≡ workAfter edition1 (now (graph .entry)) (now (work .entry)) ⌝ }
     ensures { λ r. ⌜ ((yes : _) → outcomeOf r ≡ loops yes → (yes ≡ true) ↔ ClosedWalk (theoryOf (now (graph .entry)))) ⌝ }
 {
-    let checked = graph::check(graph);
+    let checked = checking::check(graph);
     let Checked::Accepted = checked else {
         return Need::Refused(checked);
     };

@@ -18,7 +18,7 @@ ghost use Rattle.cycles.specs.Outcome.{loops, outcomeOf, outcome, workAfter, Cl
 use adjacency::Table;
 use area::Bases;
 use cycles::Need;
-use graph::Checked;
+use refusals::Checked;
 
 // How many edges lead to node n: one from its operand, or one from each leaf.
 fn degree(graph: &[u32], n: usize) -> usize
@@ -51,11 +51,11 @@ fn count_heads(graph: &[u32], work: &mut [u32], b: Bases, p: usize)
     if graph32::body(graph, p) == 0 {
         return;
     }
-    let links = graph32::link_records(graph);
+    let from = graph32::links_from(graph);
     let mut l = graph32::first_head(graph, p);
     while l > 0 {
-        let v = graph32::value(links, l);
-        l = graph32::next(links, l);
+        let v = graph32::value(graph, from, l);
+        l = graph32::next(graph, from, l);
         counters32::add(work, b.dependencies + v, 1);
     }
 }
@@ -133,7 +133,7 @@ pub fn needed(graph: &[u32], work: &mut [u32]) -> Need
     ensures { λ _. ⌜ now (work .exit) ≡ workAfter edition2 (now (graph .entry)) (now (work .entry)) ⌝ }
     ensures { λ r. ⌜ ((yes : _) → outcomeOf r ≡ loops yes → (yes ≡ true) ↔ ClosedWalk (theoryOf (now (graph .entry)))) ⌝ }
 {
-    let checked = graph32::check(graph);
+    let checked = checking32::check(graph);
     let Checked::Accepted = checked else {
         return Need::Refused(checked);
     };

@@ -15,10 +15,10 @@ use Rattle.theory.specs.Cases.{absorbedIn, outcome as rulesGive}
 use Rattle.theory.specs.Alike.{Alike}
 use Rattle.theory.specs.Content.{SameContent}
 use Rattle.theory.proofs.ContentLaws.{content-alike, cyclic-alike, hasCycle-alike, missing-alike, absorbed-alike, outcome-alike}
-use Rattle.graph.specs.Answer.{Answer, accept, refuse, refuseIf, orNext, firstRefusal}
-use Rattle.graph.specs.Refusals.{graphRows, graphAnswer}
-use Rattle.graph.proofs.RowLaws.{rows-append}
-use Rattle.graph.proofs.AcceptedLaws.{accepted}
+use Rattle.refusals.specs.Answer.{Answer, accept, refuse, refuseIf, orNext, firstRefusal}
+use Rattle.refusals.specs.Refusals.{graphRows, graphAnswer}
+use Rattle.refusals.proofs.RowLaws.{rows-append}
+use Rattle.refusals.proofs.AcceptedLaws.{accepted}
 use Rattle.cycles.specs.Outcome.{Outcome, loops, refused, outcome}
 use Rattle.founded.specs.Answers.{preparedOf, completedOf, badMask, badLengths, badWork, absorbedRow, callAnswer, prepareAnswer, completeAnswer, outputLeft, Prepares, Completes}
 use Rattle.founded.specs.declared.Prepared.{Prepared}

@@ -53,12 +53,12 @@ fn visit_heads(graph: &[u32], work: &mut [u32], b: Bases, p: usize, tail: usize)
     requires { ⌜ Follows (Held 4294967296 b) (now work) tail (theoryOf (now graph) .heads p) ⌝ }
     ensures { λ r. ⌜ Drives (Held 4294967296 b) (b .states) (now (work .entry)) tail (theoryOf (now (graph .entry)) .heads p) (now (work .exit)) r [] ⌝ }
 {
-    let links = graph32::link_records(graph);
+    let from = graph32::links_from(graph);
     let mut t = tail;
     let mut l = graph32::first_head(graph, p);
     while l > 0 {
-        let v = graph32::value(links, l);
-        l = graph32::next(links, l);
+        let v = graph32::value(graph, from, l);
+        l = graph32::next(graph, from, l);
         t = settle(work, b, v, t);
     }
     t

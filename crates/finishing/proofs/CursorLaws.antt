@@ -14,12 +14,13 @@ use lib.ListN.{length, getD, drop-of-length-le}
 use lib.Seq.{drop-cons}
 use Rattle.theory.specs.Sets.{Is}
 use Rattle.theory.specs.Theory.{Kind, False, Atom, And, Or, Opaque, Absorbed, joins}
-use Rattle.theory.specs.Words.{kindOf, nodeAt, valueOf, nextOf, chain, Ending, theoryOf}
+use Rattle.theory.specs.Words.{kindOf, nodeAt, valueOf, nextOf, chain, theoryOf}
+use Rattle.theory.specs.Links.{MeetsOnce}
 use Rattle.theory.specs.Rows.{entries, stream, flatMap}
 use Rattle.theory.specs.Edges.{vertices, occurrences, bodyEntries, bodiesBelow, inputs, bodyCone, inGraph, conePreds}
 use Rattle.theory.specs.Accepted.{Edition, Accepted}
 use Rattle.theory.proofs.SetLaws.{bool-cases}
-use Rattle.theory.proofs.ChainLaws.{chain-end, chain-step, ending-link}
+use Rattle.theory.proofs.ChainLaws.{chain-end, chain-step, once-link}
 use Rattle.theory.proofs.EdgeLaws.{preds-atom, preds-node}
 use Rattle.theory.proofs.RowLaws.{row-last}
 use Rattle.theory.proofs.ConeLaws.{graph-cone}
@@ -126,7 +127,7 @@ module _ (ws : List ℕ) where
         at-node c q ∙ ap (λ (t : Bool). cond t [] (theoryOf ws .operand n ∷ [])) (ne-eqb c 0 z)
         ∙ ap (λ (l : List ℕ). theoryOf ws .operand n ∷ l) (sym (links-end 0 refl))
 
-    pub link-next : (c : ℕ) → c ≢ 0 → hasOperand ws n ≡ false → Ending ws c → leftOf ws v c ≡ (theoryOf ws .atoms + valueOf ws c) ∷ leftOf ws v (nextOf ws c)
+    pub link-next : (c : ℕ) → c ≢ 0 → hasOperand ws n ≡ false → MeetsOnce ws c → leftOf ws v c ≡ (theoryOf ws .atoms + valueOf ws c) ∷ leftOf ws v (nextOf ws c)
     unfolding nodeLeft
     link-next c z q h =
         at-node c q ∙ ap (map (λ m. theoryOf ws .atoms + m)) (chain-step ws h z)
@@ -196,18 +197,18 @@ module _ (ws : List ℕ) where
       first-leaf q = first-is q
 
     module _ (v : ℕ) (l : v < vertices (theoryOf ws)) where
-      chain-ends : theoryOf ws .atoms ≤ v → Ending ws (getD ws (nodeAt (v - theoryOf ws .atoms) + 2) 0)
+      chain-ends : theoryOf ws .atoms ≤ v → MeetsOnce ws (getD ws (nodeAt (v - theoryOf ws .atoms) + 2) 0)
       chain-ends h = acc .leaf-chain (v - theoryOf ws .atoms) (node-in l refl h .below)
 
       pub first-linked : Linked ws v (firstOf ws v)
-      first-linked h q = subst (Ending ws) (sym (first-leaf l refl h q)) (chain-ends h)
+      first-linked h q = subst (MeetsOnce ws) (sym (first-leaf l refl h q)) (chain-ends h)
 
       pub first-few : firstOf ws v ≤ 1 + ed .links
       first-few = go (decLt v (theoryOf ws .atoms))
         where
           node : (h : theoryOf ws .atoms ≤ v) → (hasOperand ws (v - theoryOf ws .atoms) ≡ true) ⊎ (hasOperand ws (v - theoryOf ws .atoms) ≡ false) → firstOf ws v ≤ 1 + ed .links
           node h (inl q) = let e = first-operand l refl h q in omega arith
-          node h (inr q) = let e = first-leaf l refl h q in let a = ending-link ws (chain-ends h) in let c = acc .links-few in omega arith
+          node h (inr q) = let e = first-leaf l refl h q in let a = once-link ws (chain-ends h) in let c = acc .links-few in omega arith
 
           go : Dec (v < theoryOf ws .atoms) → firstOf ws v ≤ 1 + ed .links
           go (yes h) = let e = first-atom v h in omega arith

@@ -10,12 +10,13 @@ use native.Mathlib.Omega.{arith}
 use lib.ListN.{length, getD, set, take}
 use lib.Seq.{slice, set-getD, length-slice, getD-take, getD-drop}
 use Rattle.theory.specs.Sets.{Mem}
-use Rattle.theory.specs.Words.{nodeAt, producerAt, valueOf, nextOf, Ending, theoryOf}
+use Rattle.theory.specs.Words.{nodeAt, producerAt, valueOf, nextOf, theoryOf}
+use Rattle.theory.specs.Links.{MeetsOnce}
 use Rattle.theory.specs.Rows.{entries, byHead}
 use Rattle.theory.specs.Accepted.{Edition, Accepted}
 use Rattle.theory.proofs.SetLaws.{clash}
 use Rattle.theory.proofs.CountLaws.{sum-one}
-use Rattle.theory.proofs.ChainLaws.{ending-link, ending-next}
+use Rattle.theory.proofs.ChainLaws.{once-link, once-next}
 use Rattle.theory.proofs.RowLaws.{row-item, rows-length, by-head-few}
 use Rattle.graph.specs.Layout.{ProducerIn}
 use Rattle.graph.proofs.DecodeLaws.{the-nodes, the-producers, the-operand, the-body}
@@ -155,15 +156,15 @@ module _ {ed : Edition} {ws : List ℕ} (acc : Accepted ed ws) {b : Bases} {w : 
       }
 
       module _ (q : hasOperand ws (v - b .atoms) ≡ false) where
-        pub link-ends : Ending ws c
-        link-ends = subst (Ending ws) (sym ec) (k .linked node-high (sym (ap (hasOperand ws) node-is) ∙ q))
+        pub link-ends : MeetsOnce ws c
+        link-ends = subst (MeetsOnce ws) (sym ec) (k .linked node-high (sym (ap (hasOperand ws) node-is) ∙ q))
 
         pub next-few : nextOf ws c ≤ ed .links
-        next-few = let a = ending-link ws (ending-next ws link-ends some) in let l = acc .links-few in omega arith
+        next-few = let a = once-link ws (once-next ws link-ends some) in let l = acc .links-few in omega arith
 
         pub node-leaf : {y x : ℕ} → y ≡ nextOf ws c → x ≡ valueOf ws c → Looked ws b w (set w (b .dependencies + v) y) v (Vertex (b .atoms + x))
         node-leaf {y} {x} ey ex = record {
-          moved = record { cursor = y; stored = refl; linked = λ h f. subst (Ending ws) (sym ey) (ending-next ws link-ends some) };
+          moved = record { cursor = y; stored = refl; linked = λ h f. subst (MeetsOnce ws) (sym ey) (once-next ws link-ends some) };
           took =
               ap (leftOf ws v) (sym ec) ∙ link-next ws v node-high node-is c some q link-ends
               ∙ ap₂ (λ (a l : ℕ). a ∷ leftOf ws v l) (ap₂ (λ (a l : ℕ). a + l) (sym (atoms-are (k .ready .based))) (sym ex)) (sym ey);

@@ -9,7 +9,8 @@ use native.Mathlib.Omega.{arith}
 use lib.Dec.{eqb}
 use lib.ListN.{length, getD, set, length-set}
 use lib.Seq.{getD-set-same, getD-set-other, set-getD, set-set}
-use Rattle.theory.specs.Words.{nodeAt, producerAt, valueOf, nextOf, Ending, theoryOf}
+use Rattle.theory.specs.Words.{nodeAt, producerAt, valueOf, nextOf, theoryOf}
+use Rattle.theory.specs.Links.{MeetsOnce}
 use Rattle.theory.specs.Edges.{vertices}
 use Rattle.theory.specs.Accepted.{Edition, Accepted}
 use Rattle.theory.proofs.SetLaws.{clash, eq-is, is-eq}
@@ -185,7 +186,7 @@ module _ {ed : Edition} {ws : List ℕ} (acc : Accepted ed ws) {b : Bases} {w : 
       operand-passed = passed-met o p acc 0 operand-looked
 
     module _ (q : hasOperand ws (v - b .atoms) ≡ false) (some : c ≢ 0) where
-      pub leaf-ends : Ending ws c
+      pub leaf-ends : MeetsOnce ws c
       leaf-ends = look.link-ends acc (next-looking o p) high (cursor-is o p) some q
 
       pub leaf-few : nextOf ws c ≤ ed .links

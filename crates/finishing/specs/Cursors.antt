@@ -8,7 +8,8 @@ use Prim.Native.Nat.{ℕ, zero, suc, _+_, _-_, _≤_}
 use lib.Dec.{eqb, ltb}
 use lib.ListN.{getD, drop}
 use Rattle.theory.specs.Rows.{entries, flatMap}
-use Rattle.theory.specs.Words.{nodeAt, chain, Ending, theoryOf}
+use Rattle.theory.specs.Words.{nodeAt, chain, theoryOf}
+use Rattle.theory.specs.Links.{MeetsOnce}
 use Rattle.graph.specs.Kinds.{takesOperand}
 use Rattle.adjacency.specs.Tables.{edgesOf}
 use Rattle.adjacency.specs.declared.Table.the-variants.{ByHead}
@@ -45,7 +46,7 @@ module _ (ws : List ℕ) where
 
   -- a cursor into a chain is a link from which the chain ends
   abbrev pub Linked : ℕ → ℕ → Type 0
-  Linked v c = theoryOf ws .atoms ≤ v → hasOperand (v - theoryOf ws .atoms) ≡ false → Ending ws c
+  Linked v c = theoryOf ws .atoms ≤ v → hasOperand (v - theoryOf ws .atoms) ≡ false → MeetsOnce ws c
 
 -- what a look finds, where l is left before and l′ after
 abbrev pub Took : Entry → List ℕ → List ℕ → Type 0

@@ -89,12 +89,12 @@ fn look_leaf(graph: &[u16], work: &mut [u16], b: Bases, v: usize) -> Entry
     requires { ⌜ Accepted edition1 (now graph) × ((top : ℕ) × (done : ℕ) × OnTop (now graph) b (now work) v top done) × (b .atoms ≤ v) × (hasOperand (now graph) (v - b .atoms) ≡ false) ⌝ }
     ensures { λ r. ⌜ Found (now (graph .entry)) b (now (work .entry)) (now (work .exit)) v r ⌝ }
 {
-    let links = graph::link_records(graph);
+    let from = graph::links_from(graph);
     let place = b.dependencies + v;
     let mut cursor = graph::at(work, place);
     while cursor > 0 {
-        let leaf = graph::value(links, cursor);
-        cursor = graph::next(links, cursor);
+        let leaf = graph::value(graph, from, cursor);
+        cursor = graph::next(graph, from, cursor);
         if is_new(work, b, b.atoms + leaf) {
             area::put(work, place, cursor);
             return Entry::Vertex(b.atoms + leaf);

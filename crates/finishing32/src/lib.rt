@@ -80,12 +80,12 @@ fn look_leaf(graph: &[u32], work: &mut [u32], b: Bases, v: usize) -> Entry
     requires { ⌜ Accepted edition2 (now graph) × ((top : ℕ) × (done : ℕ) × OnTop (now graph) b (now work) v top done) × (b .atoms ≤ v) × (hasOperand (now graph) (v - b .atoms) ≡ false) ⌝ }
     ensures { λ r. ⌜ Found (now (graph .entry)) b (now (work .entry)) (now (work .exit)) v r ⌝ }
 {
-    let links = graph32::link_records(graph);
+    let from = graph32::links_from(graph);
     let place = b.dependencies + v;
     let mut cursor = graph32::at(work, place);
     while cursor > 0 {
-        let leaf = graph32::value(links, cursor);
-        cursor = graph32::next(links, cursor);
+        let leaf = graph32::value(graph, from, cursor);
+        cursor = graph32::next(graph, from, cursor);
         if is_new(work, b, b.atoms + leaf) {
             area32::put(work, place, cursor);
             return Entry::Vertex(b.atoms + leaf);

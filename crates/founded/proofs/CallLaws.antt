@@ -18,9 +18,9 @@ use Rattle.theory.proofs.SetLaws.{clash, is-false, or-right}
 use Rattle.theory.proofs.CycleLaws.{cyclic-walk}
 use Rattle.theory.proofs.UnfoundedLaws.{missing-exactly}
 use Rattle.mask.specs.Mask.{wordsOf}
-use Rattle.graph.specs.Answer.{accept, refuse, refuseIf, orNext, firstRefusal}
-use Rattle.graph.specs.Refusals.{graphRows, graphAnswer}
-use Rattle.graph.proofs.RowLaws.{rows-append}
+use Rattle.refusals.specs.Answer.{accept, refuse, refuseIf, orNext, firstRefusal}
+use Rattle.refusals.specs.Refusals.{graphRows, graphAnswer}
+use Rattle.refusals.proofs.RowLaws.{rows-append}
 use Rattle.founded.specs.declared.Prepared.{Prepared}
 use Rattle.founded.specs.declared.Prepared.the-variants.{Done}
 use Rattle.founded.specs.declared.Completed.{Completed}

@@ -15,11 +15,11 @@ use Rattle.theory.specs.Cases.{absorbedIn}
 use Rattle.theory.proofs.SetLaws.{clash, is-eq}
 use Rattle.theory.proofs.ConeLaws.{filled-mem}
 use Rattle.mask.specs.Mask.{pack}
-use Rattle.graph.specs.Answer.{Answer, accept, refuse, refuseIf, orNext, firstRefusal}
-use Rattle.graph.specs.Refusals.{graphRows, graphAnswer, answerOf}
-use Rattle.graph.specs.declared.Checked.{Checked}
-use Rattle.graph.specs.declared.Checked.the-variants.{Accepted, Edition as EditionRefused, Counts, Size, Node, Producer, Link, Leaf, Head, Entries}
-use Rattle.graph.proofs.RowLaws.{rows-append}
+use Rattle.refusals.specs.Answer.{Answer, accept, refuse, refuseIf, orNext, firstRefusal}
+use Rattle.refusals.specs.Refusals.{graphRows, graphAnswer, answerOf}
+use Rattle.refusals.specs.declared.Checked.{Checked}
+use Rattle.refusals.specs.declared.Checked.the-variants.{Accepted, Edition as EditionRefused, Counts, Size, Node, Producer, Link, Back, Leaf, Head, Entries}
+use Rattle.refusals.proofs.RowLaws.{rows-append}
 use Rattle.preparation.specs.Flags.{Refused}
 use Rattle.founded.specs.Answers.{absorbedRow, callAnswer, outputLeft, workLeft}
 use Rattle.founded.proofs.OutputLaws.{flags-pack}
@@ -40,6 +40,7 @@ graph-number Size n = (refl, refl)
 graph-number (Node k) n = (refl, refl)
 graph-number (Producer k) n = (refl, refl)
 graph-number (Link k) n = (refl, refl)
+graph-number (Back k) n = (refl, refl)
 graph-number (Leaf k) n = (refl, refl)
 graph-number (Head k) n = (refl, refl)
 graph-number Entries n = (refl, refl)

@@ -10,10 +10,10 @@ use Rattle.theory.specs.Sets.{filled}
 use Rattle.theory.specs.Words.{theoryOf}
 use Rattle.theory.specs.Accepted.{Edition}
 use Rattle.theory.specs.Cases.{absorbedIn}
-use Rattle.graph.specs.Answer.{Answer, accept, refuse, refuseIf, orNext, firstRefusal}
-use Rattle.graph.specs.Refusals.{graphRows, graphAnswer}
-use Rattle.graph.proofs.RowLaws.{rows-append}
-use Rattle.graph.proofs.PlaceLaws.{graph-place}
+use Rattle.refusals.specs.Answer.{Answer, accept, refuse, refuseIf, orNext, firstRefusal}
+use Rattle.refusals.specs.Refusals.{graphRows, graphAnswer}
+use Rattle.refusals.proofs.RowLaws.{rows-append}
+use Rattle.refusals.proofs.PlaceLaws.{graph-place}
 use Rattle.preparation.proofs.StageLaws.{absorbed-low}
 use Rattle.founded.specs.declared.Prepared.{Prepared}
 use Rattle.founded.specs.declared.Completed.{Completed}

@@ -10,9 +10,9 @@ use Rattle.theory.specs.Accepted.{Edition}
 use Rattle.theory.specs.Founded.{missing}
 use Rattle.theory.proofs.CutLaws.{SameCuts, missing-cuts}
 use Rattle.mask.specs.Mask.{pack}
-use Rattle.graph.specs.Answer.{accept}
-use Rattle.graph.specs.Refusals.{graphAnswer}
-use Rattle.graph.proofs.AcceptedLaws.{accepted}
+use Rattle.refusals.specs.Answer.{accept}
+use Rattle.refusals.specs.Refusals.{graphAnswer}
+use Rattle.refusals.proofs.AcceptedLaws.{accepted}
 use Rattle.founded.specs.declared.Completed.{Completed}
 use Rattle.founded.specs.Answers.{completedOf, Completes}
 

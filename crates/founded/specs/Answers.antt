@@ -15,8 +15,8 @@ use Rattle.theory.specs.Founded.{cyclic, missing}
 use Rattle.theory.specs.Unfounded.{OnClosedWalk, Unfounded}
 use Rattle.theory.specs.Cases.{absorbedIn}
 use Rattle.mask.specs.Mask.{wordsOf, pack}
-use Rattle.graph.specs.Answer.{Answer, accept, refuse, refuseIf, firstRefusal}
-use Rattle.graph.specs.Refusals.{graphRows, answerOf}
+use Rattle.refusals.specs.Answer.{Answer, accept, refuse, refuseIf, firstRefusal}
+use Rattle.refusals.specs.Refusals.{graphRows, answerOf}
 use Rattle.founded.specs.declared.Prepared.{Prepared}
 use Rattle.founded.specs.declared.Prepared.the-variants.{Done, Refused, Output, Work, Absorbed}
 use Rattle.founded.specs.declared.Completed.{Completed}

@@ -7,11 +7,11 @@ ghost use lib.ListN.{length, getD, replicate};
 ghost use Rattle.theory.specs.Words.{theoryOf};
 ghost use Rattle.theory.specs.Accepted.{edition1, areaOf};
 ghost use Rattle.mask.specs.Mask.{wordsOf, pack};
-ghost use Rattle.graph.specs.Answer.{accept};
-ghost use Rattle.graph.specs.Refusals.{graphAnswer};
+ghost use Rattle.refusals.specs.Answer.{accept};
+ghost use Rattle.refusals.specs.Refusals.{graphAnswer};
 ghost use Rattle.founded.specs.Answers.{badMask, badLengths, Prepares, Completes};
-use graph::Checked;
 use preparation::Marks;
+use refusals::Checked;
 
 // What each call answers. specs/Answers has the number and place of each.
 pub enum Prepared {
@@ -72,7 +72,7 @@ fn prepare_accepted(graph: &[u16], output: &mut [u64], work: &mut [u16]) -> Prep
 pub fn prepare(graph: &[u16], output: &mut [u64], work: &mut [u16]) -> Prepared
     ensures { λ r. ⌜ Prepares edition1 (now (graph .entry)) (now (output .entry)) (now (work .entry)) (now (output .exit)) (now (work .exit)) r ⌝ }
 {
-    let checked = graph::check(graph);
+    let checked = checking::check(graph);
     let Checked::Accepted = checked else {
         return Prepared::Refused(checked);
     };
@@ -136,7 +136,7 @@ pub fn complete(
 ) -> Completed
     ensures { λ r. ⌜ Completes edition1 (now (graph .entry)) (now (never .entry)) (now («atom_never» .entry)) (now (output .entry)) (now (work .entry)) (now (output .exit)) (now (work .exit)) r ⌝ }
 {
-    let checked = graph::check(graph);
+    let checked = checking::check(graph);
     let Checked::Accepted = checked else {
         return Completed::Refused(checked);
     };

@@ -8,13 +8,13 @@ ghost use lib.ListN.{length, getD, replicate};
 ghost use Rattle.theory.specs.Words.{theoryOf};
 ghost use Rattle.theory.specs.Accepted.{edition2, areaOf};
 ghost use Rattle.mask.specs.Mask.{wordsOf, pack};
-ghost use Rattle.graph.specs.Answer.{accept};
-ghost use Rattle.graph.specs.Refusals.{graphAnswer};
+ghost use Rattle.refusals.specs.Answer.{accept};
+ghost use Rattle.refusals.specs.Refusals.{graphAnswer};
 ghost use Rattle.founded.specs.Answers.{badMask, badLengths, Prepares, Completes};
 use founded::Completed;
 use founded::Prepared;
-use graph::Checked;
 use preparation::Marks;
+use refusals::Checked;
 
 // Whether a mask, or an output, has another length than one over so many numbers.
 fn bad_mask(count: usize, words: usize) -> bool
@@ -58,7 +58,7 @@ fn prepare_accepted(graph: &[u32], output: &mut [u64], work: &mut [u32]) -> Prep
 pub fn prepare(graph: &[u32], output: &mut [u64], work: &mut [u32]) -> Prepared
     ensures { λ r. ⌜ Prepares edition2 (now (graph .entry)) (now (output .entry)) (now (work .entry)) (now (output .exit)) (now (work .exit)) r ⌝ }
 {
-    let checked = graph32::check(graph);
+    let checked = checking32::check(graph);
     let Checked::Accepted = checked else {
         return Prepared::Refused(checked);
     };
@@ -122,7 +122,7 @@ pub fn complete(
 ) -> Completed
     ensures { λ r. ⌜ Completes edition2 (now (graph .entry)) (now (never .entry)) (now («atom_never» .entry)) (now (output .entry)) (now (work .entry)) (now (output .exit)) (now (work .exit)) r ⌝ }
 {
-    let checked = graph32::check(graph);
+    let checked = checking32::check(graph);
     let Checked::Accepted = checked else {
         return Completed::Refused(checked);
     };

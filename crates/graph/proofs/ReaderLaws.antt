@@ -45,13 +45,17 @@ B κs = T.the-row (namedLft 1 0 tt κs)
 abbrev pub passed : RefT (List ℕ) → ℕ → List Val × (List Val × Unit {0})
 passed s n = (sliceVal (s .ptr) (length (s .now)) ∷ [], (vint w64 n ∷ [], tt))
 
+-- the slice, where the links begin, and the number
+abbrev pub passed3 : RefT (List ℕ) → ℕ → ℕ → List Val × (List Val × (List Val × Unit {0}))
+passed3 s f n = (sliceVal (s .ptr) (length (s .now)) ∷ [], (vint w64 f ∷ [], (vint w64 n ∷ [], tt)))
+
 -- the contract of `chain_of`
 abbrev pub New : {M : Type 1} (𝓤 : URA M) (H : Heap 𝓤) (A : Atoms 𝓤) (mem : Memory → SProp 𝓤) (run : Routine → Fun 𝓤) → Contract 𝓤
 New 𝓤 H A mem run = tripleOf 𝓤 H A new.signature (new.spec 𝓤 H A mem run)
 
 module _ {M : Type 1} (𝓤 : URA M) (H : Heap 𝓤) (A : Atoms 𝓤) (W : Given 𝓤 H A) (κ : Lft) (q : Share) where
   -- what the struct owns gives what a callee on the slice and the number asks, and is kept: the struct is Copy
-  module _ (d : Chain) where
+  module _ (d : Chain) (f : ℕ) (low : f < 2 ^ 64) where
     abbrev D : Declared
     D = T.the-type (namedLft 1 0 tt (κ, tt))
 
@@ -68,18 +72,18 @@ module _ {M : Type 1} (𝓤 : URA M) (H : Heap 𝓤) (A : Atoms 𝓤) (W : Given
     Own = B (κ, tt) .own d (mach ∷ [])
 
     pub apart : (X : SProp 𝓤)
-        → ent 𝓤 (⋆ 𝓤 H A ((‵ (flft κ q) ⊛ ‵ ftrue) ∷ ‵ (owns (ShrSlice (named 0) κ u16 ∷ usize ∷ []) (d .words, (d .link, tt)) (passed (d .words) (d .link))) ∷ [])) X → d .link < 2 ^ 64
-        → ent 𝓤 (⋆ 𝓤 H A ((‵ (flft κ q) ⊛ ‵ ftrue) ∷ ‵ (owns (B (κ, tt) ∷ []) (d, tt) (mach ∷ [], tt)) ∷ [])) (sep 𝓤 X (sem 𝓤 H A Own))
+        → ent 𝓤 (⋆ 𝓤 H A ((‵ (flft κ q) ⊛ ‵ ftrue) ∷ ‵ (owns (ShrSlice (named 0) κ u16 ∷ usize ∷ usize ∷ []) (d .words, (f, (d .link, tt))) (passed3 (d .words) f (d .link))) ∷ [])) X → d .link < 2 ^ 64
+        → ent 𝓤 (⋆ 𝓤 H A ((‵ (flft κ q) ⊛ ‵ ftrue) ∷ ‵ (owns (B (κ, tt) ∷ usize ∷ []) (d, (f, tt)) (mach ∷ [], (vint w64 f ∷ [], tt))) ∷ [])) (sep 𝓤 X (sem 𝓤 H A Own))
     apart X asked fits =
-        qed W ((‵ (flft κ q) ⊛ ‵ ftrue) ∷ ‵ (owns (B (κ, tt) ∷ []) (d, tt) (mach ∷ [], tt)) ∷ []) ∵
+        qed W ((‵ (flft κ q) ⊛ ‵ ftrue) ∷ ‵ (owns (B (κ, tt) ∷ usize ∷ []) (d, (f, tt)) (mach ∷ [], (vint w64 f ∷ [], tt))) ∷ []) ∵
         move ! (1 ∷ []) $ fsplit ! $ move ! (1 ∷ []) $ drop ! $ use1 W (‵ Own ⊛ ‵ Own) (LL.copy D (T′.the-copy (namedLft 1 0 tt (κ, tt))) 𝓤 H A W .twice d (mach ∷ [])) $ split ! $
         use1 W (given (mach ∷ [] ≡ mach ∷ []) (‵ (all-own (D .parts) L vd))) (own-open 𝓤 H A W D L vd mach) $ learn ! (λ _. use1 W (‵ (ownAt (D .parts) L 0 (d .words)) ⊛ ‵ (rest (D .parts) L 0 vd)) (own-out 𝓤 H A W (D .parts) L 0 vd) $ split ! $
         -- [what words owns; what link owns; what the struct owns; the token]
-        move ! (1 ∷ []) $ drop ! $ nothing ! $ owned ! usize (Is usize) (uint-makes 𝓤 H A W w64) (d .link) _ (refl, fits) $ fjoin ! $ move ! (1 ∷ 0 ∷ []) $ fjoin ! $
+        move ! (1 ∷ []) $ drop ! $ nothing ! $ owned ! usize (Is usize) (uint-makes 𝓤 H A W w64) (d .link) _ (refl, fits) $ fjoin ! $ owned ! usize (Is usize) (uint-makes 𝓤 H A W w64) f _ (refl, low) $ fjoin ! $ move ! (1 ∷ 0 ∷ []) $ fjoin ! $
         move ! (2 ∷ 0 ∷ []) $ use2 W (raw X) asked $ frame ! $ done !)
 
-  -- the call of `chain_of` on the slice s and the number n, and what it says
-  module _ (mem : Memory → SProp 𝓤) (run : Routine → Fun 𝓤) (s : RefT (List ℕ)) (n : ℕ) where
+  -- the call of `chain_of` on the slice s and the number n, of s, f and n that were passed, and what it says
+  module _ (mem : Memory → SProp 𝓤) (run : Routine → Fun 𝓤) (s : RefT (List ℕ)) (f n : ℕ) where
     abbrev v : Val
     v = sliceVal (s .ptr) (length (s .now))
 
@@ -89,10 +93,10 @@ module _ {M : Type 1} (𝓤 : URA M) (H : Heap 𝓤) (A : Atoms 𝓤) (W : Given
     abbrev pub to-new : New 𝓤 H A mem run .Ghost
     to-new = (((κ, tt), (q, tt), tt, (s, (n, tt)), passed s n), tt)
 
-    pub goes-new : ent 𝓤 (⋆ 𝓤 H A ((‵ (flft κ q) ⊛ ‵ ftrue) ∷ ‵ (owns (ShrSlice (named 0) κ u16 ∷ usize ∷ []) (s, (n, tt)) (passed s n)) ∷ [])) (sep 𝓤 (New 𝓤 H A mem run .pre to-new) (sem 𝓤 H A Held))
+    pub goes-new : ent 𝓤 (⋆ 𝓤 H A ((‵ (flft κ q) ⊛ ‵ ftrue) ∷ ‵ (owns (ShrSlice (named 0) κ u16 ∷ usize ∷ usize ∷ []) (s, (f, (n, tt))) (passed3 s f n)) ∷ [])) (sep 𝓤 (New 𝓤 H A mem run .pre to-new) (sem 𝓤 H A Held))
     goes-new =
-        qed W ((‵ (flft κ q) ⊛ ‵ ftrue) ∷ ‵ (owns (ShrSlice (named 0) κ u16 ∷ usize ∷ []) (s, (n, tt)) (passed s n)) ∷ []) ∵
-        move ! (1 ∷ []) $ fsplit ! $ use1 W (‵ Held ⊛ ‵ Held) (shr-slice-copy 𝓤 H A W (named 0) κ u16 .twice s (v ∷ [])) $ split ! $
+        qed W ((‵ (flft κ q) ⊛ ‵ ftrue) ∷ ‵ (owns (ShrSlice (named 0) κ u16 ∷ usize ∷ usize ∷ []) (s, (f, (n, tt))) (passed3 s f n)) ∷ []) ∵
+        move ! (1 ∷ []) $ fsplit ! $ move ! (1 ∷ []) $ fsplit ! $ drop ! $ move ! (1 ∷ []) $ use1 W (‵ Held ⊛ ‵ Held) (shr-slice-copy 𝓤 H A W (named 0) κ u16 .twice s (v ∷ [])) $ split ! $
         move ! (0 ∷ 2 ∷ []) $ fjoin ! $ move ! (2 ∷ 0 ∷ []) $ use2 W (raw (New 𝓤 H A mem run .pre to-new)) (qed W ((‵ (flft κ q) ⊛ ‵ ftrue) ∷ ‵ (owns (ShrSlice (named 0) κ u16 ∷ usize ∷ []) (s, (n, tt)) (passed s n)) ∷ []) ∵ join ! $ frame ! $ done !) $ frame ! $ done !
 
     abbrev pub IsNew : Chain → Type 0
@@ -101,6 +105,6 @@ module _ {M : Type 1} (𝓤 : URA M) (H : Heap 𝓤) (A : Atoms 𝓤) (W : Given
     pub new-said : (r : Chain) → ent 𝓤 (ensured 𝓤 H A new.ended (new.clauses 𝓤 H A mem run) (κ, tt) (s, (n, tt)) tt r) (fact 𝓤 (IsNew r))
     new-said r = exE 𝓤 _ (λ ws. snd∗ 𝓤 (sem 𝓤 H A (lasts new.ended (κ, tt) (s, (n, tt)) ws)) (fact 𝓤 (IsNew r)))
 
--- what is asked of the slice and the number is asked of the struct made of them
-pub same : {s : RefT (List ℕ)} {n : ℕ} (r : Chain) → r .words ≡ s → r .link ≡ n → LinkIn (now s) n → LinkIn (now (r .words)) (r .link)
-same r e f w = subst₂ (λ (x : RefT (List ℕ)) (m : ℕ). LinkIn (now x) m) (sym e) (sym f) w
+-- what is asked of the slice and the numbers is asked of the struct made of them
+pub same : {s : RefT (List ℕ)} {f n : ℕ} (r : Chain) → r .words ≡ s → r .link ≡ n → LinkIn (now s) f n → LinkIn (now (r .words)) f (r .link)
+same {f = f} r e g w = subst₂ (λ (x : RefT (List ℕ)) (m : ℕ). LinkIn (now x) f m) (sym e) (sym g) w

@@ -1,10 +1,10 @@
--- Where chains begin, what the accessors ask of the words, and what the parts of the graph check hand on to each other.
+-- Where chains begin, and what the accessors ask of the words.
 use mathlib.Core.Path.{_≡_}
 use mathlib.Core.List.{List}
 use Prim.Native.Nat.{ℕ, _+_, _-_, _*_, _≤_, _<_}
-use lib.ListN.{length, getD, drop}
-use Rattle.theory.specs.Words.{nodeAt, producerAt, Ending}
-use Rattle.theory.specs.Accepted.{Edition, sizeOf}
+use lib.ListN.{length, getD}
+use Rattle.theory.specs.Words.{nodeAt, producerAt}
+use Rattle.theory.specs.Accepted.{sizeOf}
 
 -- the first link of a node's leaves, of a producer's heads
 abbrev pub leafLink : List ℕ → ℕ → ℕ
@@ -22,30 +22,17 @@ pub record ProducerIn (ws : List ℕ) (p : ℕ) : Type 0 where
   pub size : length ws ≡ sizeOf ws
   pub below : p < getD ws 3 0
 
--- rs are the link records of the words ws: those after the header, the nodes and the producers
-pub record RecordsOf (ws rs : List ℕ) : Type 0 where
-  pub are : rs ≡ drop (5 + 3 * getD ws 2 0 + 2 * getD ws 3 0) ws
+-- the link records begin at word `from`: after the header, the nodes and the producers
+pub record LinksFrom (ws : List ℕ) (from : ℕ) : Type 0 where
+  pub is : from ≡ 5 + 3 * getD ws 2 0 + 2 * getD ws 3 0
 
--- links are numbered from 1; rs are link records
-pub record LinkIn (rs : List ℕ) (l : ℕ) : Type 0 where
+-- links are numbered from 1, and their records begin at word `from`
+pub record LinkIn (ws : List ℕ) (from l : ℕ) : Type 0 where
   pub some : 0 < l
-  pub within : 2 * l ≤ length rs
+  pub within : from + 2 * l ≤ length ws
 
-unfoldable pub valueIn : List ℕ → ℕ → ℕ
-valueIn rs l = getD rs (2 * l - 2) 0
+unfoldable pub valueIn : List ℕ → (from l : ℕ) → ℕ
+valueIn ws from l = getD ws (from + 2 * l - 2) 0
 
-unfoldable pub nextIn : List ℕ → ℕ → ℕ
-nextIn rs l = getD rs (2 * l - 1) 0
-
--- what rows 1 to 3 leave
-pub record Sized (ed : Edition) (ws : List ℕ) : Type 0 where
-  pub size : length ws ≡ sizeOf ws
-  pub atoms-few : getD ws 1 0 ≤ ed .counts
-  pub nodes-few : getD ws 2 0 ≤ ed .counts
-  pub producers-few : getD ws 3 0 ≤ ed .counts
-  pub links-few : getD ws 4 0 ≤ ed .links
-
--- what rows 4 to 6 leave to those who follow the chains
-pub record Chained (ws : List ℕ) : Type 0 where
-  pub leaf-chain : (n : ℕ) → n < getD ws 2 0 → Ending ws (leafLink ws n)
-  pub head-chain : (p : ℕ) → p < getD ws 3 0 → Ending ws (headLink ws p)
+unfoldable pub nextIn : List ℕ → (from l : ℕ) → ℕ
+nextIn ws from l = getD ws (from + 2 * l - 1) 0

@@ -1,5 +1,2 @@
 pub mod Kinds
 pub mod Layout
-pub mod Search
-pub mod Answer
-pub mod Refusals

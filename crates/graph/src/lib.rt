@@ -1,18 +1,14 @@
-// The graph as lent words (document 01, "The graph as lent words"): the kind table, the header, the records, the reader of chains, and the
-// graph check, whose rows are in rows.rt. Words are read by `at` alone, so that no other function knows how wide one is.
-mod edition;
-mod rows;
-
+// The graph as lent words (document 01, "The graph as lent words"): the kind table, the header, the records and the reader of chains. Words are read by `at` alone, so that no other function knows how wide one is.
 ghost use mathlib.Core.Path.{_≡_};
 ghost use mathlib.Core.Bool.{false};
 ghost use Prim.Native.Nat.{_+_, _<_, _≤_};
 ghost use lib.ListN.{length, getD};
 ghost use Rattle.theory.specs.Theory.{joins};
-ghost use Rattle.theory.specs.Words.{kindOf, nodeAt, producerAt, chain, Ending};
+ghost use Rattle.theory.specs.Words.{kindOf, nodeAt, producerAt, chain};
+ghost use Rattle.theory.specs.Links.{MeetsOnce};
 ghost use Rattle.theory.specs.Accepted.{Accepted, edition1, sizeOf};
 ghost use Rattle.graph.specs.Kinds.{rowOf, takesOperand, waitsForOne, waitsForAll, startsTrue};
-ghost use Rattle.graph.specs.Layout.{NodeIn, ProducerIn, RecordsOf, LinkIn, valueIn, nextIn};
-ghost use Rattle.graph.specs.Refusals.{graphAnswer, answerOf};
+ghost use Rattle.graph.specs.Layout.{NodeIn, ProducerIn, LinksFrom, LinkIn, valueIn, nextIn};
 
 // A row a kind: takes an operand, takes links, waits for one, waits for all, starts true.
 const KINDS: [[u8; 5]; 8] = [
@@ -149,31 +145,31 @@ pub fn first_head(graph: &[u16], p: usize) -> usize
     at(graph, producer_at(graph, p) + 1)
 }
 
-// The link records.
-pub fn link_records(graph: &[u16]) -> &[u16]
+// Where the link records begin.
+pub fn links_from(graph: &[u16]) -> usize
     requires { ⌜ length (now graph) ≡ sizeOf (now graph) ⌝ }
-    ensures { λ r. ⌜ RecordsOf (now (graph .entry)) (now r) ⌝ }
+    ensures { λ r. ⌜ LinksFrom (now (graph .entry)) r ⌝ }
 {
-    let from = 5 + 3 * at(graph, 2) + 2 * at(graph, 3);
-    &graph[from..]
+    5 + 3 * at(graph, 2) + 2 * at(graph, 3)
 }
 
-// A link's record, by its number from 1: its value and the next link.
-fn value_at(links: &[u16], l: usize) -> usize
-    requires { ⌜ LinkIn (now links) l ⌝ }
-    ensures { λ r. ⌜ r ≡ valueIn (now (links .entry)) l ⌝ }
+// A link's record, by its number from 1 and where the records begin: its value and the next link.
+fn value_at(graph: &[u16], from: usize, l: usize) -> usize
+    requires { ⌜ LinkIn (now graph) from l ⌝ }
+    ensures { λ r. ⌜ r ≡ valueIn (now (graph .entry)) from l ⌝ }
 {
-    at(links, 2 * l - 2)
+    at(graph, from + 2 * l - 2)
 }
 
-fn next_at(links: &[u16], l: usize) -> usize
-    requires { ⌜ LinkIn (now links) l ⌝ }
-    ensures { λ r. ⌜ r ≡ nextIn (now (links .entry)) l ⌝ }
+fn next_at(graph: &[u16], from: usize, l: usize) -> usize
+    requires { ⌜ LinkIn (now graph) from l ⌝ }
+    ensures { λ r. ⌜ r ≡ nextIn (now (graph .entry)) from l ⌝ }
 {
-    at(links, 2 * l - 1)
+    at(graph, from + 2 * l - 1)
 }
 
-// The reader of a chain: the words of the graph that hold its links, and a link number. Each function over it takes it apart and calls a plain one.
+// The reader of a chain: the graph's words and a link number. Each function over it takes it apart and calls a plain one. Where the links begin is handed to them, so that
+// no header is read at each link.
 pub struct Chain<'a> {
     pub words: &'a [u16],
     pub link: usize,
@@ -191,86 +187,50 @@ pub fn chain_link<'a>(c: Chain<'a>) -> usize
     c.link
 }
 
-pub fn chain_value<'a>(c: Chain<'a>) -> usize
-    requires { ⌜ LinkIn (now (c .words)) (c .link) ⌝ }
-    ensures { λ r. ⌜ r ≡ valueIn (now (c .entry .words)) (c .entry .link) ⌝ }
+pub fn chain_value<'a>(c: Chain<'a>, from: usize) -> usize
+    requires { ⌜ LinkIn (now (c .words)) from (c .link) ⌝ }
+    ensures { λ r. ⌜ r ≡ valueIn (now (c .entry .words)) from (c .entry .link) ⌝ }
 {
-    value_at(c.words, c.link)
+    value_at(c.words, from, c.link)
 }
 
-pub fn chain_next<'a>(c: Chain<'a>) -> Chain<'a>
-    requires { ⌜ LinkIn (now (c .words)) (c .link) ⌝ }
-    ensures { λ r. ⌜ (r .words ≡ c .entry .words) × (r .link ≡ nextIn (now (c .entry .words)) (c .entry .link)) ⌝ }
+pub fn chain_next<'a>(c: Chain<'a>, from: usize) -> Chain<'a>
+    requires { ⌜ LinkIn (now (c .words)) from (c .link) ⌝ }
+    ensures { λ r. ⌜ (r .words ≡ c .entry .words) × (r .link ≡ nextIn (now (c .entry .words)) from (c .entry .link)) ⌝ }
 {
-    let next = next_at(c.words, c.link);
+    let next = next_at(c.words, from, c.link);
     Chain {
         words: c.words,
         link: next,
     }
 }
 
-// What every loop over a chain calls, on the link records.
-pub fn value(links: &[u16], l: usize) -> usize
-    requires { ⌜ LinkIn (now links) l ⌝ }
-    ensures { λ r. ⌜ r ≡ valueIn (now (links .entry)) l ⌝ }
+// What every loop over a chain calls, on the graph's words and where the links begin.
+pub fn value(graph: &[u16], from: usize, l: usize) -> usize
+    requires { ⌜ LinkIn (now graph) from l ⌝ }
+    ensures { λ r. ⌜ r ≡ valueIn (now (graph .entry)) from l ⌝ }
 {
-    chain_value(chain_of(links, l))
+    chain_value(chain_of(graph, l), from)
 }
 
-pub fn next(links: &[u16], l: usize) -> usize
-    requires { ⌜ LinkIn (now links) l ⌝ }
-    ensures { λ r. ⌜ r ≡ nextIn (now (links .entry)) l ⌝ }
+pub fn next(graph: &[u16], from: usize, l: usize) -> usize
+    requires { ⌜ LinkIn (now graph) from l ⌝ }
+    ensures { λ r. ⌜ r ≡ nextIn (now (graph .entry)) from l ⌝ }
 {
-    chain_link(chain_next(chain_of(links, l)))
+    chain_link(chain_next(chain_of(graph, l), from))
 }
 
 // How many entries a chain has, repeats counted.
 pub fn entries(graph: &[u16], first: usize) -> usize
-    requires { ⌜ Accepted edition1 (now graph) × Ending (now graph) first ⌝ }
+    requires { ⌜ Accepted edition1 (now graph) × MeetsOnce (now graph) first ⌝ }
     ensures { λ r. ⌜ r ≡ length (chain (now (graph .entry)) first) ⌝ }
 {
-    let links = link_records(graph);
+    let from = links_from(graph);
     let mut n: usize = 0;
     let mut l = first;
     while l > 0 {
         n += 1;
-        l = next(links, l);
+        l = next(graph, from, l);
     }
     n
-}
-
-// What the check answers. specs/Refusals has the number and place of each.
-pub enum Checked {
-    Accepted,
-    Edition,
-    Counts,
-    Size,
-    Node(u32),
-    Producer(u32),
-    Link(u32),
-    Leaf(u32),
-    Head(u32),
-    Entries,
-}
-
-// What a walk over chains finds: the first whose chain has a wrong value, or how many entries all chains have.
-pub enum Walk {
-    Bad(usize),
-    Total(usize),
-}
-
-// The graph check: refusals 1 to 9, in the table's order.
-pub fn check(graph: &[u16]) -> Checked
-    ensures { λ r. ⌜ answerOf r ≡ graphAnswer edition1 (now (graph .entry)) ⌝ }
-{
-    if rows::bad_edition(graph) {
-        return Checked::Edition;
-    }
-    if rows::bad_counts(graph) {
-        return Checked::Counts;
-    }
-    if rows::bad_size(graph) {
-        return Checked::Size;
-    }
-    rows::check_records(graph)
 }

@@ -1,10 +1,10 @@
 // The number and the place of each answer.
 ghost use mathlib.Core.Path.{_≡_};
 ghost use Prim.Native.Nat.{_<_};
-ghost use Rattle.graph.specs.Refusals.{answerOf};
+ghost use Rattle.refusals.specs.Refusals.{answerOf};
 ghost use Rattle.founded.specs.Answers.{completedOf};
 use founded::Completed;
-use graph::Checked;
+use refusals::Checked;
 
 pub fn checked_number(c: Checked) -> usize
     ensures { λ r. ⌜ (r ≡ answerOf c .number) × (r < 65536) ⌝ }
@@ -17,6 +17,7 @@ pub fn checked_number(c: Checked) -> usize
         Checked::Node(_) => 4,
         Checked::Producer(_) => 5,
         Checked::Link(_) => 6,
+        Checked::Back(_) => 14,
         Checked::Leaf(_) => 7,
         Checked::Head(_) => 8,
         Checked::Entries => 9,
@@ -30,6 +31,7 @@ pub fn checked_place(c: Checked) -> usize
         Checked::Node(n) => n as usize,
         Checked::Producer(p) => p as usize,
         Checked::Link(l) => l as usize,
+        Checked::Back(i) => i as usize,
         Checked::Leaf(n) => n as usize,
         Checked::Head(p) => p as usize,
         Checked::Accepted => 0,

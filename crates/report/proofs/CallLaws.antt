@@ -17,11 +17,11 @@ use Rattle.theory.specs.Founded.{hasCycle, missing}
 use Rattle.theory.specs.Cases.{absorbedIn}
 use Rattle.theory.proofs.SetLaws.{bool-cases}
 use Rattle.mask.specs.Mask.{wordsOf, pack}
-use Rattle.graph.specs.Answer.{Answer, accept, refuse, orNext, firstRefusal}
-use Rattle.graph.specs.Refusals.{graphRows, graphAnswer, answerOf}
-use Rattle.graph.specs.declared.Checked.{Checked}
-use Rattle.graph.specs.declared.Checked.the-variants.{Accepted, Edition, Counts, Size, Node, Producer, Link, Leaf, Head, Entries}
-use Rattle.graph.proofs.AcceptedLaws.{accepted}
+use Rattle.refusals.specs.Answer.{Answer, accept, refuse, orNext, firstRefusal}
+use Rattle.refusals.specs.Refusals.{graphRows, graphAnswer, answerOf}
+use Rattle.refusals.specs.declared.Checked.{Checked}
+use Rattle.refusals.specs.declared.Checked.the-variants.{Accepted, Edition, Counts, Size, Node, Producer, Link, Back, Leaf, Head, Entries}
+use Rattle.refusals.proofs.AcceptedLaws.{accepted}
 use Rattle.cycles.specs.Outcome.{Outcome, loops, refused, outcome, outcomeOf}
 use Rattle.cycles.specs.declared.Need.{Need}
 use Rattle.founded.specs.Answers.{absorbedRow, badLengths, completedOf, Completes}
@@ -95,17 +95,19 @@ pub record Few (graph : List ℕ) : Type 0 where
 pub accepted-few : (graph : List ℕ) → graphAnswer edition1 graph ≡ accept → Few graph
 accepted-few graph e = let a = accepted edition1 graph e in record { long = omega (arith, a .size); atoms = a .atoms-few; nodes = a .nodes-few }
 
-pub checked-low : (c : Checked) → answerOf c .number ≤ 9
-checked-low Accepted = omega arith
-checked-low Edition = omega arith
-checked-low Counts = omega arith
-checked-low Size = omega arith
-checked-low (Node n) = omega arith
-checked-low (Producer p) = omega arith
-checked-low (Link l) = omega arith
-checked-low (Leaf n) = omega arith
-checked-low (Head p) = omega arith
-checked-low Entries = omega arith
+-- the graph's own refusals are not 12
+pub checked-other : (c : Checked) → answerOf c .number ≡ 12 → ⊥
+checked-other Accepted e = omega arith
+checked-other Edition e = omega arith
+checked-other Counts e = omega arith
+checked-other Size e = omega arith
+checked-other (Node n) e = omega arith
+checked-other (Producer p) e = omega arith
+checked-other (Link l) e = omega arith
+checked-other (Back i) e = omega arith
+checked-other (Leaf n) e = omega arith
+checked-other (Head p) e = omega arith
+checked-other Entries e = omega arith
 
 -- a table that gives number 0 accepts
 accepts : (rows : List Answer) → firstRefusal rows .number ≡ 0 → firstRefusal rows ≡ accept

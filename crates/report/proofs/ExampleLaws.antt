@@ -11,10 +11,11 @@ use Rattle.theory.specs.Edges.{occurrences, vertices, bodyEntries, bodiesBelow,
 use Rattle.theory.specs.Truth.{holds, truthIn, truth, fires}
 use Rattle.theory.specs.Founded.{hasCycle, cyclic, atomTruth, produced, foundedStep, founded, missing}
 use Rattle.theory.specs.Words.{kindOf, chainIn, chain, theoryOf, bitAt}
+use Rattle.theory.specs.Links.{after, linkAfter, comesBack}
 use Rattle.theory.specs.Cases.{absorbedIn, c1, c2, alone}
 use Rattle.graph.specs.Kinds.{takesOperand}
-use Rattle.graph.specs.Answer.{refuseFirst, firstRefusal}
-use Rattle.graph.specs.Refusals.{badEdition, badCounts, badEntries, badOperand, badFirst, badRecord, badBody, badNext, badSize, graphRows, graphAnswer}
+use Rattle.refusals.specs.Answer.{refuseFirst, firstRefusal}
+use Rattle.refusals.specs.Refusals.{badEdition, badCounts, badEntries, badOperand, badFirst, badRecord, badBody, badNext, badSize, graphRows, graphAnswer}
 use Rattle.founded.specs.Answers.{absorbedRow}
 use Rattle.input.specs.Bytes.{littleEndian, tabulate}
 use Rattle.input.specs.Input.{graphSize, graphOf, masksOf}
@@ -42,7 +43,7 @@ pub examples :
     -- nothing: refused 1 0
     × (reportText [] 0 ≡ 114 ∷ 101 ∷ 102 ∷ 117 ∷ 115 ∷ 101 ∷ 100 ∷ 32 ∷ 49 ∷ 32 ∷ 48 ∷ 10 ∷ [])
 unfolding reportText graphSize graphOf masksOf badMasks answer inBytes noCuts littleEndian tabulate digitsIn decimal spaced absorbedRow
-    takesOperand refuseFirst firstRefusal badEdition badCounts badEntries badOperand badFirst badRecord badBody badNext badSize graphRows graphAnswer
+    takesOperand refuseFirst firstRefusal badEdition badCounts badEntries badOperand badFirst badRecord badBody badNext after linkAfter comesBack badSize graphRows graphAnswer
     absorbedIn any all member filled anyBelow members sumBelow has tableFrom grow least reachStep reached
     kindOf chainIn chain theoryOf bitAt joins absorbed
     occurrences vertices bodyEntries bodiesBelow inputs predsBy preds isBody isLeaf coneStep cone bodyCone

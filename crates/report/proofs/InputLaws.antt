@@ -14,8 +14,8 @@ use Rattle.theory.specs.Sets.{Is}
 use Rattle.theory.specs.Accepted.{edition1, sizeOf}
 use Rattle.theory.proofs.SetLaws.{bool-cases, or-left, or-right}
 use Rattle.mask.specs.Mask.{wordsOf}
-use Rattle.graph.specs.Answer.{Answer, accept, refuse, firstRefusal}
-use Rattle.graph.specs.Refusals.{badEdition, badCounts, graphRows, graphAnswer}
+use Rattle.refusals.specs.Answer.{Answer, accept, refuse, firstRefusal}
+use Rattle.refusals.specs.Refusals.{badEdition, badCounts, graphRows, graphAnswer}
 use Rattle.input.specs.Bytes.{words}
 use Rattle.input.specs.Input.{graphSize, graphOf, masksOf}
 use Rattle.input.proofs.HeaderLaws.{SameHeader, header-of, header-whole, take-least, drop-least, size-cut, graph-cut, header-cut, masks-length}

@@ -12,8 +12,8 @@ use Rattle.theory.specs.Accepted.{edition1}
 use Rattle.theory.specs.Founded.{hasCycle, missing}
 use Rattle.theory.specs.Cases.{absorbedIn}
 use Rattle.mask.specs.Mask.{wordsOf}
-use Rattle.graph.specs.Answer.{Answer, accept, refuseIf, firstRefusal}
-use Rattle.graph.specs.Refusals.{graphAnswer}
+use Rattle.refusals.specs.Answer.{Answer, accept, refuseIf, firstRefusal}
+use Rattle.refusals.specs.Refusals.{graphAnswer}
 use Rattle.founded.specs.Answers.{absorbedRow}
 use Rattle.input.specs.Bytes.{words}
 use Rattle.input.specs.Input.{graphOf, masksOf}

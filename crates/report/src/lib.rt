@@ -6,8 +6,8 @@ ghost use lib.ListN.{length, getD};
 ghost use Rattle.theory.specs.Words.{theoryOf};
 ghost use Rattle.theory.specs.Accepted.{edition1};
 ghost use Rattle.theory.specs.Founded.{hasCycle};
-ghost use Rattle.graph.specs.Answer.{accept};
-ghost use Rattle.graph.specs.Refusals.{graphAnswer};
+ghost use Rattle.refusals.specs.Answer.{accept};
+ghost use Rattle.refusals.specs.Refusals.{graphAnswer};
 ghost use Rattle.mask.specs.Mask.{wordsOf};
 ghost use Rattle.report.specs.Report.{badMasks, Split, Ready, Passed, ReportedOf, Reported};
 use cycles::Need;
@@ -90,7 +90,7 @@ fn report_graph(graph: &[u16], masks: &[u8], out: &mut [u8]) -> usize
     requires { ⌜ 6144 ≤ length (now out) ⌝ }
     ensures { λ r. ⌜ ReportedOf (now (graph .entry)) (now (masks .entry)) (now (out .entry)) (now (out .exit)) r ⌝ }
 {
-    let checked = graph::check(graph);
+    let checked = checking::check(graph);
     let number = numbers::checked_number(checked);
     if number != 0 {
         return text::put_refusal(out, number, numbers::checked_place(checked));

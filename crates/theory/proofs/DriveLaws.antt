@@ -7,7 +7,8 @@ use Prim.Native.Nat.{ℕ, _+_, _≤_, _<_}
 use native.Mathlib.Numerals.{add-one}
 use lib.ListN.{length, getD}
 use lib.Seq.{slice, slice-cons}
-use Rattle.theory.specs.Words.{valueOf, nextOf, chain, Ending}
+use Rattle.theory.specs.Words.{valueOf, nextOf, chain}
+use Rattle.theory.specs.Links.{MeetsOnce}
 use Rattle.theory.specs.Drive.{Follows, Drives}
 use Rattle.theory.proofs.ChainLaws.{chain-step}
 
@@ -46,7 +47,7 @@ module _ {Ctx E : Type 0} (P : Ctx → List ℕ → ℕ → List E → Type 0) w
       turn-more s = drives-step (part x) (g rest) (ap g e ∙ cons x rest) d s
 
 -- a chain, at a link: its value and the next link
-pub chain-turn : (ws : List ℕ) {l x y : ℕ} → Ending ws l → (l ≡ 0 → ⊥) → x ≡ valueOf ws l → y ≡ nextOf ws l → chain ws l ≡ x ∷ chain ws y
+pub chain-turn : (ws : List ℕ) {l x y : ℕ} → MeetsOnce ws l → (l ≡ 0 → ⊥) → x ≡ valueOf ws l → y ≡ nextOf ws l → chain ws l ≡ x ∷ chain ws y
 chain-turn ws e z ex ey = rw (ex, ey) (chain-step ws e z)
 
 -- a slice, at its first word

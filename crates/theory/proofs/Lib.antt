@@ -2,13 +2,13 @@ pub mod CaseLaws
 pub mod SetLaws
 pub mod LeastLaws
 pub mod WalkLaws
-pub mod ChainLaws
 pub mod EdgeLaws
 pub mod TruthLaws
 pub mod CycleLaws
 pub mod FoundedLaws
 pub mod UnfoundedLaws
 pub mod CountLaws
+pub mod ChainLaws
 pub mod DriveLaws
 pub mod KahnLaws
 pub mod ClosureLaws

@@ -1,4 +1,4 @@
--- What the graph check leaves: every field in range, every leaf below its node, every chain ending, both totals within their limit
+-- What the graph check leaves: every field in range, every leaf below its node, every chain meeting no link twice, both totals within their limit
 -- (document 01, "Where a call is turned away", rows 1 to 9). Every later part relies on this record and on no row of the table.
 use mathlib.Core.Path.{_≡_}
 use mathlib.Core.Bool.{false}
@@ -7,7 +7,8 @@ use Prim.Native.Nat.{ℕ, _+_, _*_, _≤_, _<_}
 use lib.ListN.{length, getD}
 use Rattle.theory.specs.Sets.{sumBelow}
 use Rattle.theory.specs.Theory.{Theory, WellFormed, joins}
-use Rattle.theory.specs.Words.{nodeAt, producerAt, Ending, theoryOf}
+use Rattle.theory.specs.Words.{nodeAt, producerAt, theoryOf}
+use Rattle.theory.specs.Links.{MeetsOnce}
 
 -- an edition of the layout: its number; its limits of atoms, nodes and producers, of links, and of leaf entries and head entries; how many words its work
 -- area has for a graph of so many atoms, nodes and producers together, and so many leaf and head entries together
@@ -48,8 +49,8 @@ pub record Accepted (ed : Edition) (ws : List ℕ) : Type 0 where
   pub producers-few : getD ws 3 0 ≤ ed .counts
   pub links-few : getD ws 4 0 ≤ ed .links
   pub kind-low : (n : ℕ) → n < getD ws 2 0 → getD ws (nodeAt n) 0 ≤ 7
-  pub leaf-chain : (n : ℕ) → n < getD ws 2 0 → Ending ws (getD ws (nodeAt n + 2) 0)
-  pub head-chain : (p : ℕ) → p < getD ws 3 0 → Ending ws (getD ws (producerAt ws p + 1) 0)
+  pub leaf-chain : (n : ℕ) → n < getD ws 2 0 → MeetsOnce ws (getD ws (nodeAt n + 2) 0)
+  pub head-chain : (p : ℕ) → p < getD ws 3 0 → MeetsOnce ws (getD ws (producerAt ws p + 1) 0)
   pub leafless : (n : ℕ) → n < getD ws 2 0 → joins (theoryOf ws .kind n) ≡ false → theoryOf ws .leaves n ≡ []
   pub well-formed : WellFormed (theoryOf ws)
   pub leaf-total : leafEntries (theoryOf ws) ≤ ed .entries

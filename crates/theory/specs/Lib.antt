@@ -7,6 +7,7 @@ pub mod Truth
 pub mod Founded
 pub mod Unfounded
 pub mod Words
+pub mod Links
 pub mod Accepted
 pub mod Cases
 pub mod Counts

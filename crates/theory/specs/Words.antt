@@ -1,8 +1,7 @@
 -- Words and masks as document 01 lays them down, decoded ("The graph as lent words"). A word is a number, so one decoder serves every width.
-use mathlib.Core.Path.{_≡_}
 use mathlib.Core.Bool.{cond}
 use mathlib.Core.List.{List, [], _∷_}
-use Prim.Native.Nat.{ℕ, zero, suc, _+_, _-_, _*_, _/_, _%_, _^_, _≤_}
+use Prim.Native.Nat.{ℕ, zero, suc, _+_, _-_, _*_, _/_, _%_, _^_}
 use lib.Dec.{eqb}
 use lib.ListN.{getD}
 use Rattle.theory.specs.Sets.{Set}
@@ -45,17 +44,6 @@ module _ (ws : List ℕ) where
   -- a chain that meets no link twice has at most K entries
   unfoldable pub chain : ℕ → List ℕ
   chain l = chainIn (getD ws 4 0) l
-
-  -- the chain from l ends after n links, and each of them is a link of the graph
-  pub data Ends : ℕ → ℕ → Type 0 where
-    stop : {l : ℕ} → l ≡ 0 → Ends 0 l
-    more : {n l : ℕ} → (l ≡ 0 → ⊥) → l ≤ getD ws 4 0 → Ends n (nextOf l) → Ends (suc n) l
-
-  -- what every part that follows a chain relies on: it ends within K links
-  pub record Ending (l : ℕ) : Type 0 where
-    pub count : ℕ
-    pub within : count ≤ getD ws 4 0
-    pub ends : Ends count l
 
   unfoldable pub theoryOf : Theory
   theoryOf = record {

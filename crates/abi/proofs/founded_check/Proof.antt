@@ -3,7 +3,7 @@ use native.Mathlib.Omega.{arith}
 use denote.Ref.{now}
 use lib.ListN.{getD}
 use Rattle.theory.specs.Accepted.{edition1}
-use Rattle.graph.proofs.PlaceLaws.{graph-place}
+use Rattle.refusals.proofs.PlaceLaws.{graph-place}
 use borrow.Author.Needs.{needs}
 use Rattle.abi.proofs.founded_check.Statement.{statement}
 use Rattle.abi.proofs.founded_check.Tie as tie

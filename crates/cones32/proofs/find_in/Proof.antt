@@ -8,7 +8,7 @@ use lib.ListN.{length, take, drop}
 use Rattle.theory.specs.Words.{theoryOf}
 use Rattle.cones.specs.Cones.{wantedBy}
 use Rattle.cones.specs.Finding.{stage, Searching}
-use Rattle.cones.proofs.SearchLaws.{next-low, leaves-ending, leaves-follow, leaves-done}
+use Rattle.cones.proofs.SearchLaws.{next-low, leaves-once, leaves-follow, leaves-done}
 use Rattle.cones.proofs.BeginLaws.{kept-trans, kept-flags, kept-end, begun-start, held-end}
 use borrow.Author.Needs.{needs}
 use Rattle.cones32.proofs.find_in.Statement.{statement}
@@ -68,7 +68,7 @@ include-chain-requires c κs =
     let c-loop = p1 .before .loop in
     let p2 = p1 .before .before .before .before .before .before .before .before .before .before .before .before in
     let c-pre = p2 .pre in
-    ((c-pre .0 .0, leaves-ending (c-pre .0 .0) (c-loop .inv .0) (c-loop-test .taken) (c-at .ensures .0) (c-first-leaf .ensures)), leaves-follow (c-pre .0 .0) (c-loop .inv .0) (c-loop-test .taken) (c-at .ensures .0) (c-first-leaf .ensures))
+    ((c-pre .0 .0, leaves-once (c-pre .0 .0) (c-loop .inv .0) (c-loop-test .taken) (c-at .ensures .0) (c-first-leaf .ensures)), leaves-follow (c-pre .0 .0) (c-loop .inv .0) (c-loop-test .taken) (c-at .ensures .0) (c-first-leaf .ensures))
 
 add-next : tie.Need-add-next Inv-loop μ-loop
 add-next c =

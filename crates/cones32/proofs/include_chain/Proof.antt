@@ -4,9 +4,10 @@ use mathlib.Core.List.{_∷_, []}
 use native.Mathlib.Omega.{arith}
 use denote.Ref.{now}
 use lib.ListN.{length}
-use Rattle.theory.specs.Words.{chain, Ending}
+use Rattle.theory.specs.Words.{chain}
+use Rattle.theory.specs.Links.{MeetsOnce}
 use Rattle.theory.specs.Drive.{Drives}
-use Rattle.theory.proofs.ChainLaws.{ending-next, chain-end, chain-falls}
+use Rattle.theory.proofs.ChainLaws.{once-next, chain-end, chain-falls}
 use Rattle.theory.proofs.DriveLaws.{drives-none, turn-next, turn-more, turn-done, chain-turn}
 use Rattle.graph.proofs.DecodeLaws.{value-of, next-of, link-in}
 use Rattle.cones.specs.Finding.{Searching}
@@ -14,13 +15,13 @@ use Rattle.cones32.proofs.include_chain.Statement.{statement}
 use Rattle.cones32.proofs.include_chain.Tie as tie
 
 abbrev Inv-loop : tie.InvT-loop
-Inv-loop graph work₀ b first count links t₀ l₀ work t l = Ending graph l × Drives (Searching 4294967296 b) (b .states) work₀ count (chain graph first) work t (chain graph l)
+Inv-loop graph work₀ b first count from t₀ l₀ work t l = MeetsOnce graph l × Drives (Searching 4294967296 b) (b .states) work₀ count (chain graph first) work t (chain graph l)
 
 abbrev μ-loop : tie.MeasureT-loop
-μ-loop graph work₀ b first count links t₀ l₀ work t l = length (chain graph l)
+μ-loop graph work₀ b first count from t₀ l₀ work t l = length (chain graph l)
 
-link-records-requires : tie.Need-link-records-requires Inv-loop μ-loop
-link-records-requires c κs =
+links-from-requires : tie.Need-links-from-requires Inv-loop μ-loop
+links-from-requires c κs =
     let c-pre = c .before .before .pre in
     c-pre .0 .0 .size
 
@@ -33,29 +34,29 @@ loop-holds c =
 value-requires : tie.Need-value-requires Inv-loop μ-loop
 value-requires c κs =
     let c-loop = c .before .loop in
-    let c-link-records = c .before .before .link-records in
+    let c-links-from = c .before .before .links-from in
     let p1 = c .before .before .before .before .before in
     let c-pre = p1 .pre in
-    link-in (c-link-records .ensures) (c-pre .0 .0) (c-loop .inv .0) (λ z. omega arith)
+    link-in (c-links-from .ensures) (c-pre .0 .0) (c-loop .inv .0) (λ z. omega arith)
 
 next-requires : tie.Need-next-requires Inv-loop μ-loop
 next-requires c κs =
     let c-loop = c .before .before .loop in
-    let c-link-records = c .before .before .before .link-records in
+    let c-links-from = c .before .before .before .links-from in
     let p1 = c .before .before .before .before .before .before in
     let c-pre = p1 .pre in
-    link-in (c-link-records .ensures) (c-pre .0 .0) (c-loop .inv .0) (λ z. omega arith)
+    link-in (c-links-from .ensures) (c-pre .0 .0) (c-loop .inv .0) (λ z. omega arith)
 
 include-requires : tie.Need-include-requires Inv-loop μ-loop
 include-requires c κs =
     let c-value = c .before .before .value in
     let p1 = c .before .before .before .before in
     let c-loop = p1 .loop in
-    let c-link-records = p1 .before .link-records in
+    let c-links-from = p1 .before .links-from in
     let p2 = p1 .before .before .before .before in
     let c-args = p2 .args in
     let c-pre = p2 .pre in
-    turn-next (Searching 4294967296 (c-args .b)) (λ l. l) (λ x. x ∷ []) (λ x xs. refl) (c-loop .inv .1) (chain-turn (now (c-args .graph)) (c-loop .inv .0) (λ z. omega arith) (value-of (c-link-records .ensures) (c-loop .l) (c-value .ensures) (omega arith)) refl) (c-pre .1)
+    turn-next (Searching 4294967296 (c-args .b)) (λ l. l) (λ x. x ∷ []) (λ x xs. refl) (c-loop .inv .1) (chain-turn (now (c-args .graph)) (c-loop .inv .0) (λ z. omega arith) (value-of (c-links-from .ensures) (c-loop .l) (c-value .ensures) (omega arith)) refl) (c-pre .1)
 
 loop-less : tie.Need-loop-less Inv-loop μ-loop
 loop-less c =
@@ -63,9 +64,9 @@ loop-less c =
     let c-next = p1 .next in
     let c-loop = p1 .before .before .before .loop in
     let p2 = p1 .before .before .before .before in
-    let c-link-records = p2 .link-records in
+    let c-links-from = p2 .links-from in
     let c-args = p2 .before .before .before .args in
-    rw (next-of (c-link-records .ensures) (c-loop .l) (c-next .ensures) (omega arith)) (chain-falls (now (c-args .graph)) (c-loop .inv .0) (λ z. omega arith))
+    rw (next-of (c-links-from .ensures) (c-loop .l) (c-next .ensures) (omega arith)) (chain-falls (now (c-args .graph)) (c-loop .inv .0) (λ z. omega arith))
 
 loop-again : tie.Need-loop-again Inv-loop μ-loop
 loop-again c =
@@ -75,10 +76,10 @@ loop-again c =
     let c-value = p1 .before .value in
     let c-loop = p1 .before .before .before .loop in
     let p2 = p1 .before .before .before .before in
-    let c-link-records = p2 .link-records in
+    let c-links-from = p2 .links-from in
     let c-args = p2 .before .before .before .args in (
-      rw (next-of (c-link-records .ensures) (c-loop .l) (c-next .ensures) (omega arith)) (ending-next (now (c-args .graph)) (c-loop .inv .0) (λ z. omega arith)),
-      turn-more (Searching 4294967296 (c-args .b)) (λ l. l) (λ x. x ∷ []) (λ x xs. refl) (c-loop .inv .1) (chain-turn (now (c-args .graph)) (c-loop .inv .0) (λ z. omega arith) (value-of (c-link-records .ensures) (c-loop .l) (c-value .ensures) (omega arith)) (next-of (c-link-records .ensures) (c-loop .l) (c-next .ensures) (omega arith))) (c-include .ensures),
+      rw (next-of (c-links-from .ensures) (c-loop .l) (c-next .ensures) (omega arith)) (once-next (now (c-args .graph)) (c-loop .inv .0) (λ z. omega arith)),
+      turn-more (Searching 4294967296 (c-args .b)) (λ l. l) (λ x. x ∷ []) (λ x xs. refl) (c-loop .inv .1) (chain-turn (now (c-args .graph)) (c-loop .inv .0) (λ z. omega arith) (value-of (c-links-from .ensures) (c-loop .l) (c-value .ensures) (omega arith)) (next-of (c-links-from .ensures) (c-loop .l) (c-next .ensures) (omega arith))) (c-include .ensures),
     )
 
 same-length : tie.Need-same-length Inv-loop μ-loop
@@ -99,7 +100,7 @@ include-chain-spec =
     (tie.spec
     Inv-loop
     μ-loop
-    link-records-requires
+    links-from-requires
     loop-holds
     value-requires
     next-requires

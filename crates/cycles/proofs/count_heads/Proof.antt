@@ -4,8 +4,9 @@ use Prim.Native.Nat.{_+_}
 use native.Mathlib.Omega.{arith}
 use denote.Ref.{now}
 use lib.ListN.{length}
-use Rattle.theory.specs.Words.{chain, Ending, theoryOf}
-use Rattle.theory.proofs.ChainLaws.{ending-next, chain-end, chain-falls}
+use Rattle.theory.specs.Words.{chain, theoryOf}
+use Rattle.theory.specs.Links.{MeetsOnce}
+use Rattle.theory.proofs.ChainLaws.{once-next, chain-end, chain-falls}
 use Rattle.theory.proofs.DriveLaws.{chain-turn}
 use Rattle.graph.proofs.DecodeLaws.{the-body, value-of, next-of, link-in}
 use Rattle.cycles.specs.Held.{Counting}
@@ -15,10 +16,10 @@ use Rattle.cycles.proofs.count_heads.Statement.{statement}
 use Rattle.cycles.proofs.count_heads.Tie as tie
 
 abbrev Inv-loop : tie.InvT-loop
-Inv-loop graph work₀ b p links l₀ work l = (length work ≡ length work₀) × Ending graph l × Counting 65536 (theoryOf graph) b work (p + 1) (chain graph l)
+Inv-loop graph work₀ b p from l₀ work l = (length work ≡ length work₀) × MeetsOnce graph l × Counting 65536 (theoryOf graph) b work (p + 1) (chain graph l)
 
 abbrev μ-loop : tie.MeasureT-loop
-μ-loop graph work₀ b p links l₀ work l = length (chain graph l)
+μ-loop graph work₀ b p from l₀ work l = length (chain graph l)
 
 body-requires : tie.Need-body-requires Inv-loop μ-loop
 unfolding theoryOf
@@ -35,8 +36,8 @@ returns c =
     let c-args = p1 .args in
     fact-counted (c-pre .2) (c-pre .1) (the-body (now (c-args .graph)) (c-args .p) ∙ sym (c-body .ensures) ∙ c-if1 .taken)
 
-link-records-requires : tie.Need-link-records-requires Inv-loop μ-loop
-link-records-requires c κs =
+links-from-requires : tie.Need-links-from-requires Inv-loop μ-loop
+links-from-requires c κs =
     let p1 = c .before .before .before .before in
     let c-pre = p1 .pre in
     c-pre .0 .size
@@ -62,19 +63,19 @@ loop-holds c =
 value-requires : tie.Need-value-requires Inv-loop μ-loop
 value-requires c κs =
     let c-loop = c .before .loop in
-    let c-link-records = c .before .before .before .link-records in
+    let c-links-from = c .before .before .before .links-from in
     let p1 = c .before .before .before .before .before .before .before .before in
     let c-pre = p1 .pre in
-    link-in (c-link-records .ensures) (c-pre .0) (c-loop .inv .1) (omega arith)
+    link-in (c-links-from .ensures) (c-pre .0) (c-loop .inv .1) (omega arith)
 
 next-requires : tie.Need-next-requires Inv-loop μ-loop
 next-requires c κs =
     let c-loop = c .before .before .loop in
     let p1 = c .before .before .before .before in
-    let c-link-records = p1 .link-records in
+    let c-links-from = p1 .links-from in
     let p2 = p1 .before .before .before .before .before in
     let c-pre = p2 .pre in
-    link-in (c-link-records .ensures) (c-pre .0) (c-loop .inv .1) (omega arith)
+    link-in (c-links-from .ensures) (c-pre .0) (c-loop .inv .1) (omega arith)
 
 add-add : tie.Need-add-add Inv-loop μ-loop
 add-add c =
@@ -82,10 +83,10 @@ add-add c =
     let c-value = c .before .before .before .value in
     let p1 = c .before .before .before .before .before in
     let c-loop = p1 .loop in
-    let c-link-records = p1 .before .before .link-records in
+    let c-links-from = p1 .before .before .links-from in
     let p2 = p1 .before .before .before .before .before .before .before in
     let c-args = p2 .args in
-    let l = head-place (c-loop .inv .2) (chain-turn (now (c-args .graph)) (c-loop .inv .1) (omega arith) (value-of (c-link-records .ensures) (c-loop .l) (c-value .ensures) (omega arith)) (next-of (c-link-records .ensures) (c-loop .l) (c-next .ensures) (omega arith))) in
+    let l = head-place (c-loop .inv .2) (chain-turn (now (c-args .graph)) (c-loop .inv .1) (omega arith) (value-of (c-links-from .ensures) (c-loop .l) (c-value .ensures) (omega arith)) (next-of (c-links-from .ensures) (c-loop .l) (c-next .ensures) (omega arith))) in
     omega arith
 
 add-requires : tie.Need-add-requires Inv-loop μ-loop
@@ -94,10 +95,10 @@ add-requires c κs =
     let c-value = c .before .before .before .value in
     let p1 = c .before .before .before .before .before in
     let c-loop = p1 .loop in
-    let c-link-records = p1 .before .before .link-records in
+    let c-links-from = p1 .before .before .links-from in
     let p2 = p1 .before .before .before .before .before .before .before in
     let c-args = p2 .args in
-    let e = chain-turn (now (c-args .graph)) (c-loop .inv .1) (omega arith) (value-of (c-link-records .ensures) (c-loop .l) (c-value .ensures) (omega arith)) (next-of (c-link-records .ensures) (c-loop .l) (c-next .ensures) (omega arith)) in
+    let e = chain-turn (now (c-args .graph)) (c-loop .inv .1) (omega arith) (value-of (c-links-from .ensures) (c-loop .l) (c-value .ensures) (omega arith)) (next-of (c-links-from .ensures) (c-loop .l) (c-next .ensures) (omega arith)) in
     (head-place (c-loop .inv .2) e, head-fits (c-loop .inv .2) e)
 
 loop-less : tie.Need-loop-less Inv-loop μ-loop
@@ -106,10 +107,10 @@ loop-less c =
     let c-next = p1 .next in
     let c-loop = p1 .before .before .before .loop in
     let p2 = p1 .before .before .before .before .before in
-    let c-link-records = p2 .link-records in
+    let c-links-from = p2 .links-from in
     let p3 = p2 .before .before .before .before .before in
     let c-args = p3 .args in
-    rw (next-of (c-link-records .ensures) (c-loop .l) (c-next .ensures) (omega arith)) (chain-falls (now (c-args .graph)) (c-loop .inv .1) (omega arith))
+    rw (next-of (c-links-from .ensures) (c-loop .l) (c-next .ensures) (omega arith)) (chain-falls (now (c-args .graph)) (c-loop .inv .1) (omega arith))
 
 loop-again : tie.Need-loop-again Inv-loop μ-loop
 loop-again c =
@@ -119,11 +120,11 @@ loop-again c =
     let c-value = p1 .before .value in
     let c-loop = p1 .before .before .before .loop in
     let p2 = p1 .before .before .before .before .before in
-    let c-link-records = p2 .link-records in
+    let c-links-from = p2 .links-from in
     let p3 = p2 .before .before .before .before .before in
     let c-args = p3 .args in
-    let e = chain-turn (now (c-args .graph)) (c-loop .inv .1) (omega arith) (value-of (c-link-records .ensures) (c-loop .l) (c-value .ensures) (omega arith)) (next-of (c-link-records .ensures) (c-loop .l) (c-next .ensures) (omega arith)) in
-    (search needs, rw (next-of (c-link-records .ensures) (c-loop .l) (c-next .ensures) (omega arith)) (ending-next (now (c-args .graph)) (c-loop .inv .1) (omega arith)), rw (c-add .ensures .1, c-add .ensures .0) (head-counted (c-loop .inv .2) e))
+    let e = chain-turn (now (c-args .graph)) (c-loop .inv .1) (omega arith) (value-of (c-links-from .ensures) (c-loop .l) (c-value .ensures) (omega arith)) (next-of (c-links-from .ensures) (c-loop .l) (c-next .ensures) (omega arith)) in
+    (search needs, rw (next-of (c-links-from .ensures) (c-loop .l) (c-next .ensures) (omega arith)) (once-next (now (c-args .graph)) (c-loop .inv .1) (omega arith)), rw (c-add .ensures .1, c-add .ensures .0) (head-counted (c-loop .inv .2) e))
 
 same-length : tie.Need-same-length Inv-loop μ-loop
 same-length c = search needs
@@ -144,7 +145,7 @@ count-heads-spec =
     μ-loop
     body-requires
     returns
-    link-records-requires
+    links-from-requires
     first-head-requires
     loop-holds
     value-requires

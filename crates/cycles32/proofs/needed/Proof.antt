@@ -4,8 +4,8 @@ use mathlib.Core.List.{[], _∷_}
 use denote.Ref.{now}
 use types.Run.{miss}
 use lib.ListN.{length, replicate}
-use Rattle.graph.specs.Refusals.{answerOf}
-use Rattle.graph.proofs.AcceptedLaws.{accepted}
+use Rattle.refusals.specs.Refusals.{answerOf}
+use Rattle.refusals.proofs.AcceptedLaws.{accepted}
 use Rattle.theory.specs.Accepted.{edition2}
 use Rattle.area.proofs.LayoutLaws.{edition2-roomy}
 use Rattle.cycles.specs.Outcome.{loops}
@@ -26,7 +26,7 @@ returns c =
     let c-check = c .before .check in
     let p1 = c .before .before .before .before in
     let c-args = p1 .args in
-    let r = graph-refused edition2 (now (c-args .graph)) (now (c-args .work)) {c = c-check .result} (c-check .ensures) (λ e. miss (1 ∷ 2 ∷ 3 ∷ 4 ∷ 5 ∷ 6 ∷ 7 ∷ 8 ∷ 9 ∷ []) 0 tt (rw e at (c-match .keys2))) in (r .answer, (r .work, r .walk))
+    let r = graph-refused edition2 (now (c-args .graph)) (now (c-args .work)) {c = c-check .result} (c-check .ensures) (λ e. miss (1 ∷ 2 ∷ 3 ∷ 4 ∷ 5 ∷ 6 ∷ 7 ∷ 8 ∷ 9 ∷ 10 ∷ []) 0 tt (rw e at (c-match .keys2))) in (r .answer, (r .work, r .walk))
 
 words-requires : tie.Need-words-requires
 words-requires c κs =

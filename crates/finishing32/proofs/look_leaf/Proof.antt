@@ -15,13 +15,13 @@ use Rattle.finishing32.proofs.look_leaf.Statement.{statement}
 use Rattle.finishing32.proofs.look_leaf.Tie as tie
 
 abbrev Inv-loop : tie.InvT-loop
-Inv-loop graph work₀ b v links place cursor₀ work cursor = (work ≡ work₀) × ((top done : ℕ) → OnTop graph b work₀ v top done → Passed graph b work₀ v cursor top done)
+Inv-loop graph work₀ b v from place cursor₀ work cursor = (work ≡ work₀) × ((top done : ℕ) → OnTop graph b work₀ v top done → Passed graph b work₀ v cursor top done)
 
 abbrev μ-loop : tie.MeasureT-loop
-μ-loop graph work₀ b v links place cursor₀ work cursor = length (chain graph cursor)
+μ-loop graph work₀ b v from place cursor₀ work cursor = length (chain graph cursor)
 
-link-records-requires : tie.Need-link-records-requires Inv-loop μ-loop
-link-records-requires c κs =
+links-from-requires : tie.Need-links-from-requires Inv-loop μ-loop
+links-from-requires c κs =
     let c-pre = c .before .before .pre in
     c-pre .0 .size
 
@@ -46,17 +46,17 @@ value-requires : tie.Need-value-requires Inv-loop μ-loop
 value-requires c κs =
     let c-loop = c .before .loop in
     let p1 = c .before .before .before .before .before in
-    let c-link-records = p1 .link-records in
+    let c-links-from = p1 .links-from in
     let c-pre = p1 .before .before .before .pre in
-    link-in (c-link-records .ensures) (c-pre .0) (leaf-ends (c-pre .0) (c-pre .1 .2) (c-loop .inv .1) (c-pre .2) (c-pre .3) (λ z. omega arith)) (λ z. omega arith)
+    link-in (c-links-from .ensures) (c-pre .0) (leaf-ends (c-pre .0) (c-pre .1 .2) (c-loop .inv .1) (c-pre .2) (c-pre .3) (λ z. omega arith)) (λ z. omega arith)
 
 next-requires : tie.Need-next-requires Inv-loop μ-loop
 next-requires c κs =
     let c-loop = c .before .before .loop in
     let p1 = c .before .before .before .before .before .before in
-    let c-link-records = p1 .link-records in
+    let c-links-from = p1 .links-from in
     let c-pre = p1 .before .before .before .pre in
-    link-in (c-link-records .ensures) (c-pre .0) (leaf-ends (c-pre .0) (c-pre .1 .2) (c-loop .inv .1) (c-pre .2) (c-pre .3) (λ z. omega arith)) (λ z. omega arith)
+    link-in (c-links-from .ensures) (c-pre .0) (leaf-ends (c-pre .0) (c-pre .1 .2) (c-loop .inv .1) (c-pre .2) (c-pre .3) (λ z. omega arith)) (λ z. omega arith)
 
 add-is-new : tie.Need-add-is-new Inv-loop μ-loop
 add-is-new c =
@@ -65,9 +65,9 @@ add-is-new c =
     let p1 = c .before .before .before .before .before in
     let c-loop = p1 .loop in
     let p2 = p1 .before .before .before .before in
-    let c-link-records = p2 .link-records in
+    let c-links-from = p2 .links-from in
     let c-pre = p2 .before .before .before .pre in
-    let u = leaf-under (c-pre .0) (c-pre .1 .2) (c-loop .inv .1) (c-pre .2) (c-pre .3) (λ z. omega arith) (c-next .result) (next-of (c-link-records .ensures) (c-loop .cursor) (c-next .ensures) (omega arith)) (value-of (c-link-records .ensures) (c-loop .cursor) (c-value .ensures) (omega arith)) in let f = vertices-few (c-pre .1 .2 .walking .ready .based) (c-pre .0) in omega arith
+    let u = leaf-under (c-pre .0) (c-pre .1 .2) (c-loop .inv .1) (c-pre .2) (c-pre .3) (λ z. omega arith) (c-next .result) (next-of (c-links-from .ensures) (c-loop .cursor) (c-next .ensures) (omega arith)) (value-of (c-links-from .ensures) (c-loop .cursor) (c-value .ensures) (omega arith)) in let f = vertices-few (c-pre .1 .2 .walking .ready .based) (c-pre .0) in omega arith
 
 is-new-requires : tie.Need-is-new-requires Inv-loop μ-loop
 is-new-requires c κs =
@@ -76,9 +76,9 @@ is-new-requires c κs =
     let p1 = c .before .before .before .before .before in
     let c-loop = p1 .loop in
     let p2 = p1 .before .before .before .before in
-    let c-link-records = p2 .link-records in
+    let c-links-from = p2 .links-from in
     let c-pre = p2 .before .before .before .pre in
-    rw (c-loop .inv .0) ((c-pre .1 .2 .walking .ready .based) .laid, vertex-low (c-pre .1 .2 .walking .ready .based) _ (leaf-under (c-pre .0) (c-pre .1 .2) (c-loop .inv .1) (c-pre .2) (c-pre .3) (λ z. omega arith) (c-next .result) (next-of (c-link-records .ensures) (c-loop .cursor) (c-next .ensures) (omega arith)) (value-of (c-link-records .ensures) (c-loop .cursor) (c-value .ensures) (omega arith))), (c-pre .1 .2 .walking .ready .based) .ends)
+    rw (c-loop .inv .0) ((c-pre .1 .2 .walking .ready .based) .laid, vertex-low (c-pre .1 .2 .walking .ready .based) _ (leaf-under (c-pre .0) (c-pre .1 .2) (c-loop .inv .1) (c-pre .2) (c-pre .3) (λ z. omega arith) (c-next .result) (next-of (c-links-from .ensures) (c-loop .cursor) (c-next .ensures) (omega arith)) (value-of (c-links-from .ensures) (c-loop .cursor) (c-value .ensures) (omega arith))), (c-pre .1 .2 .walking .ready .based) .ends)
 
 put-requires : tie.Need-put-requires Inv-loop μ-loop
 put-requires c κs =
@@ -86,9 +86,9 @@ put-requires c κs =
     let c-next = p1 .next in
     let c-loop = p1 .before .before .before .loop in
     let p2 = p1 .before .before .before .before .before .before .before in
-    let c-link-records = p2 .link-records in
+    let c-links-from = p2 .links-from in
     let c-pre = p2 .before .before .before .pre in
-    rw (c-loop .inv .0) (here (c-pre .1 .2), (let f = leaf-few (c-pre .0) (c-pre .1 .2) (c-loop .inv .1) (c-pre .2) (c-pre .3) (λ z. omega arith) in let e = next-of (c-link-records .ensures) (c-loop .cursor) (c-next .ensures) (omega arith) in omega arith))
+    rw (c-loop .inv .0) (here (c-pre .1 .2), (let f = leaf-few (c-pre .0) (c-pre .1 .2) (c-loop .inv .1) (c-pre .2) (c-pre .3) (λ z. omega arith) in let e = next-of (c-links-from .ensures) (c-loop .cursor) (c-next .ensures) (omega arith) in omega arith))
 
 add-t19 : tie.Need-add-t19 Inv-loop μ-loop
 add-t19 c =
@@ -97,9 +97,9 @@ add-t19 c =
     let c-value = p1 .before .value in
     let c-loop = p1 .before .before .before .loop in
     let p2 = p1 .before .before .before .before .before .before .before in
-    let c-link-records = p2 .link-records in
+    let c-links-from = p2 .links-from in
     let c-pre = p2 .before .before .before .pre in
-    let u = leaf-under (c-pre .0) (c-pre .1 .2) (c-loop .inv .1) (c-pre .2) (c-pre .3) (λ z. omega arith) (c-next .result) (next-of (c-link-records .ensures) (c-loop .cursor) (c-next .ensures) (omega arith)) (value-of (c-link-records .ensures) (c-loop .cursor) (c-value .ensures) (omega arith)) in let f = vertices-few (c-pre .1 .2 .walking .ready .based) (c-pre .0) in omega arith
+    let u = leaf-under (c-pre .0) (c-pre .1 .2) (c-loop .inv .1) (c-pre .2) (c-pre .3) (λ z. omega arith) (c-next .result) (next-of (c-links-from .ensures) (c-loop .cursor) (c-next .ensures) (omega arith)) (value-of (c-links-from .ensures) (c-loop .cursor) (c-value .ensures) (omega arith)) in let f = vertices-few (c-pre .1 .2 .walking .ready .based) (c-pre .0) in omega arith
 
 same-length : tie.Need-same-length Inv-loop μ-loop
 same-length c =
@@ -117,10 +117,10 @@ returns c =
     let c-value = p1 .before .value in
     let c-loop = p1 .before .before .before .loop in
     let p2 = p1 .before .before .before .before .before .before .before in
-    let c-link-records = p2 .link-records in
+    let c-links-from = p2 .links-from in
     let c-pre = p2 .before .before .before .pre in
     let c-args = p2 .before .before .before .args in
-    rw (c-put .ensures, c-loop .inv .0) (leaf-found (c-pre .0) (c-pre .1 .2) (c-loop .inv .1) (c-pre .2) (c-pre .3) (λ z. omega arith) (c-next .result) (next-of (c-link-records .ensures) (c-loop .cursor) (c-next .ensures) (omega arith)) (value-of (c-link-records .ensures) (c-loop .cursor) (c-value .ensures) (omega arith)) (is-new (c-args .b) (c-args .b .atoms + c-value .result) (c-loop .inv .0) (c-is-new .ensures) (c-if1 .taken)))
+    rw (c-put .ensures, c-loop .inv .0) (leaf-found (c-pre .0) (c-pre .1 .2) (c-loop .inv .1) (c-pre .2) (c-pre .3) (λ z. omega arith) (c-next .result) (next-of (c-links-from .ensures) (c-loop .cursor) (c-next .ensures) (omega arith)) (value-of (c-links-from .ensures) (c-loop .cursor) (c-value .ensures) (omega arith)) (is-new (c-args .b) (c-args .b .atoms + c-value .result) (c-loop .inv .0) (c-is-new .ensures) (c-if1 .taken)))
 
 loop-less : tie.Need-loop-less Inv-loop μ-loop
 loop-less c =
@@ -128,10 +128,10 @@ loop-less c =
     let c-next = p1 .next in
     let c-loop = p1 .before .before .before .loop in
     let p2 = p1 .before .before .before .before .before .before .before in
-    let c-link-records = p2 .link-records in
+    let c-links-from = p2 .links-from in
     let c-args = p2 .before .before .before .args in
     let c-pre = p2 .before .before .before .pre in
-    rw (next-of (c-link-records .ensures) (c-loop .cursor) (c-next .ensures) (omega arith)) (chain-falls (now (c-args .graph)) (leaf-ends (c-pre .0) (c-pre .1 .2) (c-loop .inv .1) (c-pre .2) (c-pre .3) (λ z. omega arith)) (λ z. omega arith))
+    rw (next-of (c-links-from .ensures) (c-loop .cursor) (c-next .ensures) (omega arith)) (chain-falls (now (c-args .graph)) (leaf-ends (c-pre .0) (c-pre .1 .2) (c-loop .inv .1) (c-pre .2) (c-pre .3) (λ z. omega arith)) (λ z. omega arith))
 
 loop-again : tie.Need-loop-again Inv-loop μ-loop
 loop-again c =
@@ -142,10 +142,10 @@ loop-again c =
     let c-value = p1 .before .value in
     let c-loop = p1 .before .before .before .loop in
     let p2 = p1 .before .before .before .before .before .before .before in
-    let c-link-records = p2 .link-records in
+    let c-links-from = p2 .links-from in
     let c-pre = p2 .before .before .before .pre in
     let c-args = p2 .before .before .before .args in
-    (c-loop .inv .0, λ top done o. leaf-passed (c-pre .0) o (c-loop .inv .1) (c-pre .2) (c-pre .3) (λ z. omega arith) (c-next .result) (next-of (c-link-records .ensures) (c-loop .cursor) (c-next .ensures) (omega arith)) (value-of (c-link-records .ensures) (c-loop .cursor) (c-value .ensures) (omega arith)) (not-new (c-args .b) (c-args .b .atoms + c-value .result) (c-loop .inv .0) (c-is-new .ensures) (c-if1 .left)))
+    (c-loop .inv .0, λ top done o. leaf-passed (c-pre .0) o (c-loop .inv .1) (c-pre .2) (c-pre .3) (λ z. omega arith) (c-next .result) (next-of (c-links-from .ensures) (c-loop .cursor) (c-next .ensures) (omega arith)) (value-of (c-links-from .ensures) (c-loop .cursor) (c-value .ensures) (omega arith)) (not-new (c-args .b) (c-args .b .atoms + c-value .result) (c-loop .inv .0) (c-is-new .ensures) (c-if1 .left)))
 
 put-requires-2 : tie.Need-put-requires-2 Inv-loop μ-loop
 put-requires-2 c κs =
@@ -175,7 +175,7 @@ look-leaf-spec =
     (tie.spec
     Inv-loop
     μ-loop
-    link-records-requires
+    links-from-requires
     add-place
     at-requires
     loop-holds

@@ -5,9 +5,9 @@ use native.Mathlib.Omega.{arith}
 use denote.Ref.{now}
 use types.Run.{miss}
 use Rattle.theory.specs.Accepted.{edition1}
-use Rattle.graph.specs.Refusals.{answerOf}
-use Rattle.graph.specs.declared.Checked.the-variants.{Accepted}
-use Rattle.graph.proofs.AcceptedLaws.{accepted}
+use Rattle.refusals.specs.Refusals.{answerOf}
+use Rattle.refusals.specs.declared.Checked.the-variants.{Accepted}
+use Rattle.refusals.proofs.AcceptedLaws.{accepted}
 use Rattle.founded.proofs.OutcomeLaws.{graph-number, graph-refused, lengths-refused, work-refused}
 use Rattle.founded.proofs.CallLaws.{not-zero, completes, work-bad}
 use borrow.Author.Needs.{needs}
@@ -24,7 +24,7 @@ returns : tie.Need-returns
 returns c =
     let c-match = c .match in
     let c-check = c .before .check in
-    let refused : c-check .result ≢ Accepted = λ e. miss (1 ∷ 2 ∷ 3 ∷ 4 ∷ 5 ∷ 6 ∷ 7 ∷ 8 ∷ 9 ∷ []) 0 tt (rw e at (c-match .keys2)) in
+    let refused : c-check .result ≢ Accepted = λ e. miss (1 ∷ 2 ∷ 3 ∷ 4 ∷ 5 ∷ 6 ∷ 7 ∷ 8 ∷ 9 ∷ 10 ∷ []) 0 tt (rw e at (c-match .keys2)) in
     completes (graph-refused edition1 _ _ _ _ (c-check .ensures) refused) (not-zero (graph-number _ refused .0))
 
 bad-lengths-requires : tie.Need-bad-lengths-requires

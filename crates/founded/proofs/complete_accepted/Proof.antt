@@ -2,7 +2,7 @@ use mathlib.Core.Path.{refl, _∙_}
 use native.Mathlib.Omega.{arith}
 use denote.Ref.{now}
 use Rattle.theory.specs.Accepted.{edition1}
-use Rattle.graph.proofs.AcceptedLaws.{accepted}
+use Rattle.refusals.proofs.AcceptedLaws.{accepted}
 use Rattle.area.proofs.LayoutLaws.{edition1-roomy}
 use Rattle.preparation.specs.Flags.{Listed}
 use Rattle.founded.proofs.OutcomeLaws.{absorbed-refused, done}

@@ -7,13 +7,13 @@ use Rattle.graph.proofs.entries.Statement.{statement}
 use Rattle.graph.proofs.entries.Tie as tie
 
 abbrev Inv-loop : tie.InvT-loop
-Inv-loop graph first links n₀ l₀ n l = Counted graph first n l
+Inv-loop graph first from n₀ l₀ n l = Counted graph first n l
 
 abbrev μ-loop : tie.MeasureT-loop
-μ-loop graph first links n₀ l₀ n l = length (chain graph l)
+μ-loop graph first from n₀ l₀ n l = length (chain graph l)
 
-link-records-requires : tie.Need-link-records-requires Inv-loop μ-loop
-link-records-requires c κs = c .before .pre .0 .size
+links-from-requires : tie.Need-links-from-requires Inv-loop μ-loop
+links-from-requires c κs = c .before .pre .0 .size
 
 loop-holds : tie.Need-loop-holds Inv-loop μ-loop
 loop-holds c = counted-none (c .before .before .pre .1)
@@ -22,13 +22,13 @@ add-n : tie.Need-add-n Inv-loop μ-loop
 add-n c = let m = counted-few (c .before .loop .inv) in let f = c .before .before .before .before .pre .0 .links-few in omega arith
 
 next-requires : tie.Need-next-requires Inv-loop μ-loop
-next-requires c κs = link-in (c .before .before .link-records .ensures) (c .before .before .before .before .pre .0) (c .before .loop .inv .ending) (λ z. omega arith)
+next-requires c κs = link-in (c .before .before .links-from .ensures) (c .before .before .before .before .pre .0) (c .before .loop .inv .once) (λ z. omega arith)
 
 loop-less : tie.Need-loop-less Inv-loop μ-loop
-loop-less c = counted-less (c .before .before .loop .inv) (λ z. omega arith) (next-of (c .before .before .before .link-records .ensures) (c .before .before .loop .l) (c .next .ensures) (omega arith))
+loop-less c = counted-less (c .before .before .loop .inv) (λ z. omega arith) (next-of (c .before .before .before .links-from .ensures) (c .before .before .loop .l) (c .next .ensures) (omega arith))
 
 loop-again : tie.Need-loop-again Inv-loop μ-loop
-loop-again c = counted-next (c .before .before .loop .inv) (λ z. omega arith) (next-of (c .before .before .before .link-records .ensures) (c .before .before .loop .l) (c .next .ensures) (omega arith))
+loop-again c = counted-next (c .before .before .loop .inv) (λ z. omega arith) (next-of (c .before .before .before .links-from .ensures) (c .before .before .loop .l) (c .next .ensures) (omega arith))
 
 returns : tie.Need-returns Inv-loop μ-loop
 returns c = counted-end (c .before .loop .inv) (omega arith)
@@ -39,7 +39,7 @@ entries-spec =
     (tie.spec
     Inv-loop
     μ-loop
-    link-records-requires
+    links-from-requires
     loop-holds
     add-n
     next-requires

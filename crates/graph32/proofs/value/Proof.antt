@@ -38,7 +38,7 @@ use denote.Exit.{yes}
 use denote.Triple.Clauses.{ensured, lasts}
 use Rattle.graph.specs.Layout.{LinkIn, valueIn}
 use Rattle.graph32.specs.declared.Chain.{Chain}
-use Rattle.graph32.proofs.ReaderLaws.{B, New, Held, passed, to-new, goes-new, IsNew, new-said, same}
+use Rattle.graph32.proofs.ReaderLaws.{B, New, Held, passed3, to-new, goes-new, IsNew, new-said, same}
 use Rattle.graph32.proofs.Chain as T
 use Rattle.graph32.proofs.Chain.Laws as T′
 use Rattle.graph32.proofs.chain_of as new
@@ -55,15 +55,15 @@ use Rattle.graph32.proofs.value.Statement as stated
 use Rattle.graph32.proofs.value.Code as code
 
 abbrev stayed : Stays (me.ended .signature .params) (me.ended .kept)
-stayed = (stay-none-slice (0 ∷ []) tt (plain (λ _. u32)) yes, (stay-none (λ _. usize) yes, tt))
+stayed = (stay-none-slice (0 ∷ []) tt (plain (λ _. u32)) yes, (stay-none (λ _. usize) yes, (stay-none (λ _. usize) yes, tt)))
 
 -- the contracts that the proof cites
 abbrev Value : {M : Type 1} (𝓤 : URA M) (H : Heap 𝓤) (A : Atoms 𝓤) (mem : Memory → SProp 𝓤) (run : Routine → Fun 𝓤) → Contract 𝓤
 Value 𝓤 H A mem run = tripleOf 𝓤 H A value.signature (value.spec 𝓤 H A mem run)
 
-module _ {M : Type 1} (𝓤 : URA M) (H : Heap 𝓤) (A : Atoms 𝓤) (W : Given 𝓤 H A) (mem : Memory → SProp 𝓤) (run : Routine → Fun 𝓤) (κ : Lft) (q : Share) (s : RefT (List ℕ)) (n : ℕ) (ok : n < 2 ^ 64) where
+module _ {M : Type 1} (𝓤 : URA M) (H : Heap 𝓤) (A : Atoms 𝓤) (W : Given 𝓤 H A) (mem : Memory → SProp 𝓤) (run : Routine → Fun 𝓤) (κ : Lft) (q : Share) (s : RefT (List ℕ)) (f n : ℕ) (low : f < 2 ^ 64) (ok : n < 2 ^ 64) where
   abbrev found : ℕ
-  found = valueIn (now s) n
+  found = valueIn (now s) f n
 
   -- the struct's type as a local of a body has it
   abbrev αᵉ : NamedLft
@@ -74,57 +74,57 @@ module _ {M : Type 1} (𝓤 : URA M) (H : Heap 𝓤) (A : Atoms 𝓤) (W : Given
   v = sliceVal (s .ptr) (length (s .now))
 
   abbrev Own : Fml
-  Own = Held 𝓤 H A W κ q mem run s n
+  Own = Held 𝓤 H A W κ q mem run s f n
 
   abbrev Post : Val → SProp 𝓤
-  Post = walkOf 𝓤 H A me.ended stayed (me.clauses 𝓤 H A mem run) .post (((κ, tt), (q, tt), tt, (s, (n, tt)), passed s n), tt)
+  Post = walkOf 𝓤 H A me.ended stayed (me.clauses 𝓤 H A mem run) .post (((κ, tt), (q, tt), tt, (s, (f, (n, tt))), passed3 s f n), tt)
 
   exits : (t : ℕ) (u : Val) → t ≡ found → ent 𝓤 (⋆ 𝓤 H A (‵ (usize .own t (u ∷ [])) ∷ (‵ (flft κ q) ⊛ ‵ ftrue) ∷ ‵ Own ∷ [])) (Post u)
   exits t u e =
       qed W (‵ (usize .own t (u ∷ [])) ∷ (‵ (flft κ q) ⊛ ‵ ftrue) ∷ ‵ Own ∷ []) ∵
-      suffices ! _ (ends-at 𝓤 H A me.ended stayed (me.clauses 𝓤 H A mem run) W (((κ, tt), (q, tt), tt, (s, (n, tt)), passed s n), tt) u t (tt, (tt, tt)) (tt, (tt, tt))) $ says ! e $
-      move ! (1 ∷ []) $ frame ! $ nothing ! $ owned ! usize (Is usize) (uint-makes 𝓤 H A W w64) n _ (refl, ok) $ fjoin ! $ move ! (2 ∷ 0 ∷ []) $ fjoin ! $ frame ! $ done !
+      suffices ! _ (ends-at 𝓤 H A me.ended stayed (me.clauses 𝓤 H A mem run) W (((κ, tt), (q, tt), tt, (s, (f, (n, tt))), passed3 s f n), tt) u t (tt, (tt, (tt, tt))) (tt, (tt, (tt, tt)))) $ says ! e $
+      move ! (1 ∷ []) $ frame ! $ nothing ! $ owned ! usize (Is usize) (uint-makes 𝓤 H A W w64) n _ (refl, ok) $ fjoin ! $ owned ! usize (Is usize) (uint-makes 𝓤 H A W w64) f _ (refl, low) $ fjoin ! $ move ! (2 ∷ 0 ∷ []) $ fjoin ! $ frame ! $ done !
 
   -- the call of `value`, at the struct r with the machine value u
   abbrev to-value : Chain → Val → Value 𝓤 H A mem run .Ghost
-  to-value r u = (((κ, tt), (q, tt), tt, (r, tt), (u ∷ [], tt)), tt)
+  to-value r u = (((κ, tt), (q, tt), tt, (r, (f, tt)), (u ∷ [], (vint w64 f ∷ [], tt))), tt)
 
-  goes-value : (r : Chain) (u : Val) → LinkIn (now (r .words)) (r .link) → ent 𝓤 (⋆ 𝓤 H A (‵ (B (κ, tt) .own r (u ∷ [])) ∷ (‵ (flft κ q) ⊛ ‵ ftrue) ∷ [])) (Value 𝓤 H A mem run .pre (to-value r u))
-  goes-value r u w = qed W (‵ (B (κ, tt) .own r (u ∷ [])) ∷ (‵ (flft κ q) ⊛ ‵ ftrue) ∷ []) ∵ says ! w $ nothing ! $ move ! (1 ∷ 0 ∷ []) $ fjoin ! $ move ! (1 ∷ 0 ∷ []) $ frame ! $ done !
+  goes-value : (r : Chain) (u : Val) → LinkIn (now (r .words)) f (r .link) → ent 𝓤 (⋆ 𝓤 H A (‵ (B (κ, tt) .own r (u ∷ [])) ∷ (‵ (flft κ q) ⊛ ‵ ftrue) ∷ [])) (Value 𝓤 H A mem run .pre (to-value r u))
+  goes-value r u w = qed W (‵ (B (κ, tt) .own r (u ∷ [])) ∷ (‵ (flft κ q) ⊛ ‵ ftrue) ∷ []) ∵ says ! w $ nothing ! $ owned ! usize (Is usize) (uint-makes 𝓤 H A W w64) f _ (refl, low) $ fjoin ! $ move ! (1 ∷ 0 ∷ []) $ fjoin ! $ move ! (1 ∷ 0 ∷ []) $ frame ! $ done !
 
-  value-said : (r : Chain) (t : ℕ) → ent 𝓤 (ensured 𝓤 H A value.ended (value.clauses 𝓤 H A mem run) (κ, tt) (r, tt) tt t) (fact 𝓤 (t ≡ valueIn (now (r .words)) (r .link)))
-  value-said r t = exE 𝓤 _ (λ ws. snd∗ 𝓤 (sem 𝓤 H A (lasts value.ended (κ, tt) (r, tt) ws)) (fact 𝓤 (t ≡ valueIn (now (r .words)) (r .link))))
+  value-said : (r : Chain) (t : ℕ) → ent 𝓤 (ensured 𝓤 H A value.ended (value.clauses 𝓤 H A mem run) (κ, tt) (r, (f, tt)) tt t) (fact 𝓤 (t ≡ valueIn (now (r .words)) f (r .link)))
+  value-said r t = exE 𝓤 _ (λ ws. snd∗ 𝓤 (sem 𝓤 H A (lasts value.ended (κ, tt) (r, (f, tt)) ws)) (fact 𝓤 (t ≡ valueIn (now (r .words)) f (r .link))))
 
   module _ (C : Calls 𝓤 H) (Λ : Loops 𝓤 H) (fm : FmC 𝓤 H (W .laws) C) (known-new : Triple 𝓤 (C #graph·chain-of) (New 𝓤 H A mem run)) (known-value : Triple 𝓤 (C #graph·chain-value) (Value 𝓤 H A mem run)) where
-    walk : Is (ShrSlice (named 0) κ u32) s (v ∷ []) → LinkIn (now s) n → ent 𝓤 (onEntry 𝓤 H A me.signature (κ, tt) (q, tt) (s, (n, tt)) (passed s n)) (WpFn 𝓤 H C Λ code.function (v ∷ vint w64 n ∷ []) Post)
+    walk : Is (ShrSlice (named 0) κ u32) s (v ∷ []) → LinkIn (now s) f n → ent 𝓤 (onEntry 𝓤 H A me.signature (κ, tt) (q, tt) (s, (f, (n, tt))) (passed3 s f n)) (WpFn 𝓤 H C Λ code.function (v ∷ vint w64 f ∷ vint w64 n ∷ []) Post)
     walk p within =
-        qed W (raw (onEntry 𝓤 H A me.signature (κ, tt) (q, tt) (s, (n, tt)) (passed s n)) ∷ []) ∵ enter ! C Λ code.function (v ∷ vint w64 n ∷ []) _ $
-        alloc1 ! (λ l₀. alloc1 ! (λ l₁. alloc1 ! (λ l₂. alloc1 ! (λ l₃. alloc0 ! $ params1 ! $ pass1 ! (init ! 4 refl (shr-slice-lawful 𝓤 H A W (named 0) κ u32 .typed s (v ∷ []) p .0)) $ pass1 ! (init ! 2 refl (tt, record { fits = ok })) $ pass0 ! $
-        move ! (8 ∷ []) $ use1 W (raw (New 𝓤 H A mem run .pre (to-new 𝓤 H A W κ q mem run s n)) ⊛ ‵ Own) (goes-new 𝓤 H A W κ q mem run s n) $ split ! $
-        calls-at ! fm (New 𝓤 H A mem run) known-new (to-new 𝓤 H A W κ q mem run s n) (and-then ! (load ! (from ! (stop !)) (look ! 6 refl)) (and-then ! (load ! (from ! (stop !)) (look ! 4 refl)) (no-more !))) (λ u.
+        qed W (raw (onEntry 𝓤 H A me.signature (κ, tt) (q, tt) (s, (f, (n, tt))) (passed3 s f n)) ∷ []) ∵ enter ! C Λ code.function (v ∷ vint w64 f ∷ vint w64 n ∷ []) _ $
+        alloc1 ! (λ l₀. alloc1 ! (λ l₁. alloc1 ! (λ l₂. alloc1 ! (λ l₃. alloc1 ! (λ l₄. alloc0 ! $ params1 ! $ pass1 ! (init ! 6 refl (shr-slice-lawful 𝓤 H A W (named 0) κ u32 .typed s (v ∷ []) p .0)) $ pass1 ! (init ! 4 refl (tt, record { fits = low })) $ pass1 ! (init ! 2 refl (tt, record { fits = ok })) $ pass0 ! $
+        move ! (10 ∷ []) $ use1 W (raw (New 𝓤 H A mem run .pre (to-new 𝓤 H A W κ q mem run s f n)) ⊛ ‵ Own) (goes-new 𝓤 H A W κ q mem run s f n) $ split ! $
+        calls-at ! fm (New 𝓤 H A mem run) known-new (to-new 𝓤 H A W κ q mem run s f n) (and-then ! (load ! (from ! (stop !)) (look ! 8 refl)) (and-then ! (load ! (from ! (stop !)) (look ! 4 refl)) (no-more !))) (λ u.
         use1 W (later (some (λ (r : Chain). ((‵ (flft κ q) ⊛ ‵ ftrue) ⊛ ‵ (B (κ, tt) .own r (u ∷ []))) ⊛ raw (ensured 𝓤 H A new.ended (new.clauses 𝓤 H A mem run) (κ, tt) (s, (n, tt)) tt r)))) (id⊢ 𝓤 _) $ await ! tt $ pick ! (λ r.
-        split ! $ move ! (1 ∷ []) $ use1 W (raw (fact 𝓤 (IsNew 𝓤 H A W κ q mem run s n r))) (new-said 𝓤 H A W κ q mem run s n r) $ heard ! (IsNew 𝓤 H A W κ q mem run s n r) (λ e. split ! $ move ! (1 ∷ []) $
-        -- [what the struct owns; the token; what s owns; room for _3; …; _2; …; _1; …; room for _0; …]
+        split ! $ move ! (1 ∷ []) $ use1 W (raw (fact 𝓤 (IsNew 𝓤 H A W κ q mem run s f n r))) (new-said 𝓤 H A W κ q mem run s f n r) $ heard ! (IsNew 𝓤 H A W κ q mem run s f n r) (λ e. split ! $ move ! (1 ∷ []) $
+        -- [what the struct owns; the token; what s owns; room for _4; …; _3; …; _2; …; _1; …; room for _0; …]
         peeks ! (B (κ, tt)) (Is (B (κ, tt))) (shows 𝓤 H A (B (κ, tt))) r (u ∷ []) (λ is.
         land ! (from ! (stop !)) (init ! 3 refl (LL.lawful (T.the-type αᵉ) (T′.the-laws αᵉ) 𝓤 H A W .typed r _ is .0)) $
         use2 W (raw (Value 𝓤 H A mem run .pre (to-value r u))) (goes-value r u (same r (e .0) (e .1) within)) $
-        calls-at ! fm (Value 𝓤 H A mem run) known-value (to-value r u) (and-then ! (load ! (from ! (stop !)) (look ! 2 refl)) (no-more !)) (λ u′.
-        use1 W (later (some (λ (t : ℕ). ((‵ (flft κ q) ⊛ ‵ ftrue) ⊛ ‵ (usize .own t (u′ ∷ []))) ⊛ raw (ensured 𝓤 H A value.ended (value.clauses 𝓤 H A mem run) (κ, tt) (r, tt) tt t)))) (id⊢ 𝓤 _) $ await ! tt $ pick ! (λ t.
-        split ! $ move ! (1 ∷ []) $ use1 W (raw (fact 𝓤 (t ≡ valueIn (now (r .words)) (r .link)))) (value-said r t) $ heard ! (t ≡ valueIn (now (r .words)) (r .link)) (λ e′. split ! $ move ! (1 ∷ []) $
-        -- [the result; the token; what s owns; _3; …; _2; …; _1; …; room for _0; …]
+        calls-at ! fm (Value 𝓤 H A mem run) known-value (to-value r u) (and-then ! (load ! (from ! (stop !)) (look ! 2 refl)) (and-then ! (load ! (from ! (stop !)) (look ! 6 refl)) (no-more !))) (λ u′.
+        use1 W (later (some (λ (t : ℕ). ((‵ (flft κ q) ⊛ ‵ ftrue) ⊛ ‵ (usize .own t (u′ ∷ []))) ⊛ raw (ensured 𝓤 H A value.ended (value.clauses 𝓤 H A mem run) (κ, tt) (r, (f, tt)) tt t)))) (id⊢ 𝓤 _) $ await ! tt $ pick ! (λ t.
+        split ! $ move ! (1 ∷ []) $ use1 W (raw (fact 𝓤 (t ≡ valueIn (now (r .words)) f (r .link)))) (value-said r t) $ heard ! (t ≡ valueIn (now (r .words)) f (r .link)) (λ e′. split ! $ move ! (1 ∷ []) $
+        -- [the result; the token; what s owns; _4; …; _3; …; _2; …; _1; …; room for _0; …]
         peeks ! usize (Is usize) (shows 𝓤 H A usize) t (u′ ∷ []) (λ is′.
-        land ! (from ! (stop !)) (init ! 9 refl (uint-lawful 𝓤 H A W w64 .typed t _ is′ .0)) $
-        returns ! (look ! 9 refl) $ forget ! 3 refl $ forget ! 5 refl $ forget ! 7 refl $ forget ! 9 refl $ move ! (9 ∷ 10 ∷ []) $ free1 ! $ move ! (7 ∷ 8 ∷ []) $ free1 ! $ move ! (5 ∷ 6 ∷ []) $ free1 ! $ move ! (3 ∷ 4 ∷ []) $ free1 ! $ free0 ! $
-        by ! (exits t u′ (e′ ∙ (ap (λ (x : RefT (List ℕ)). valueIn (now x) (r .link)) (e .0) ∙ ap (valueIn (now s)) (e .1))))))))))))))))
+        land ! (from ! (stop !)) (init ! 11 refl (uint-lawful 𝓤 H A W w64 .typed t _ is′ .0)) $
+        returns ! (look ! 11 refl) $ forget ! 3 refl $ forget ! 5 refl $ forget ! 7 refl $ forget ! 9 refl $ forget ! 11 refl $ move ! (11 ∷ 12 ∷ []) $ free1 ! $ move ! (9 ∷ 10 ∷ []) $ free1 ! $ move ! (7 ∷ 8 ∷ []) $ free1 ! $ move ! (5 ∷ 6 ∷ []) $ free1 ! $ move ! (3 ∷ 4 ∷ []) $ free1 ! $ free0 ! $
+        by ! (exits t u′ (e′ ∙ (ap (λ (x : RefT (List ℕ)). valueIn (now x) f (r .link)) (e .0) ∙ ap (valueIn (now s) f) (e .1)))))))))))))))))
 
 module _ {M : Type 1} (𝓤 : URA M) (H : Heap 𝓤) (A : Atoms 𝓤) (W : Given 𝓤 H A) (mem : Memory → SProp 𝓤) (run : Routine → Fun 𝓤) where
   value-walks : (C : Calls 𝓤 H) (Λ : Loops 𝓤 H) → FmC 𝓤 H (W .laws) C → Triple 𝓤 (C #graph·chain-of) (New 𝓤 H A mem run) → Triple 𝓤 (C #graph·chain-value) (Value 𝓤 H A mem run) → Walks 𝓤 H A me.ended stayed (WpFn 𝓤 H C Λ code.function) (me.clauses 𝓤 H A mem run)
-  value-walks C Λ fm k0 k1 = walked 𝓤 H A me.ended stayed (me.clauses 𝓤 H A mem run) (WpFn 𝓤 H C Λ code.function) (λ κs. (slice-vals, (uint-vals w64, tt))) (λ κs. (shr-slice-tells (named 0) (κs .0) u32, (uint-tells w64, tt)))
-      (λ κs qs bounds a g are. needs 𝓤 (LinkIn (now (a .0)) (a .1 .0)) _ (λ within. walk 𝓤 H A W mem run (κs .0) (qs .0) (a .0) (a .1 .0) (are .1 .0 .1) C Λ fm k0 k1 (are .0) within))
+  value-walks C Λ fm k0 k1 = walked 𝓤 H A me.ended stayed (me.clauses 𝓤 H A mem run) (WpFn 𝓤 H C Λ code.function) (λ κs. (slice-vals, (uint-vals w64, (uint-vals w64, tt)))) (λ κs. (shr-slice-tells (named 0) (κs .0) u32, (uint-tells w64, (uint-tells w64, tt))))
+      (λ κs qs bounds a g are. needs 𝓤 (LinkIn (now (a .0)) (a .1 .0) (a .1 .1 .0)) _ (λ within. walk 𝓤 H A W mem run (κs .0) (qs .0) (a .0) (a .1 .0) (a .1 .1 .0) (are .1 .0 .1) (are .1 .1 .0 .1) C Λ fm k0 k1 (are .0) within))
 
 value-meets : {M : Type 1} (𝓤 : URA M) (H : Heap 𝓤) (A : Atoms 𝓤) → Given 𝓤 H A → (mem : Memory → SProp 𝓤) (run : Routine → Fun 𝓤) (𝓣 : Tables 𝓤 H) → Triple 𝓤 (𝓣 .C #graph·chain-of) (New 𝓤 H A mem run) → Triple 𝓤 (𝓣 .C #graph·chain-value) (Value 𝓤 H A mem run)
     → Meets 𝓤 H A me.signature (WpFn 𝓤 H (𝓣 .C) (𝓣 .Λ) code.function) (me.spec 𝓤 H A mem run)
-value-meets 𝓤 H A W mem run 𝓣 k0 k1 = walk-meets 𝓤 H A me.ended stayed W (goes-none-slice 𝓤 H A W 1 (0 ∷ []) tt (plain (λ _. u32)) yes, (goes-none 𝓤 H A W 1 (λ _. usize) yes (λ κs x f. refl), tt)) (me.clauses 𝓤 H A mem run) (WpFn 𝓤 H (𝓣 .C) (𝓣 .Λ) code.function) (WpFn-mono 𝓤 H (W .laws) 𝓣 code.function)
+value-meets 𝓤 H A W mem run 𝓣 k0 k1 = walk-meets 𝓤 H A me.ended stayed W (goes-none-slice 𝓤 H A W 1 (0 ∷ []) tt (plain (λ _. u32)) yes, (goes-none 𝓤 H A W 1 (λ _. usize) yes (λ κs x f. refl), (goes-none 𝓤 H A W 1 (λ _. usize) yes (λ κs x f. refl), tt))) (me.clauses 𝓤 H A mem run) (WpFn 𝓤 H (𝓣 .C) (𝓣 .Λ) code.function) (WpFn-mono 𝓤 H (W .laws) 𝓣 code.function)
     (value-walks 𝓤 H A W mem run (𝓣 .C) (𝓣 .Λ) (fmOf 𝓤 H (W .laws) 𝓣) k0 k1)
 
 pub value-spec : {M : Type 1} → stated.statement M

@@ -4,9 +4,10 @@ use mathlib.Core.List.{[], _∷_}
 use native.Mathlib.Omega.{arith}
 use denote.Ref.{now}
 use lib.ListN.{length}
-use Rattle.theory.specs.Words.{nextOf, chain, Ending, theoryOf}
+use Rattle.theory.specs.Words.{nextOf, chain, theoryOf}
+use Rattle.theory.specs.Links.{MeetsOnce}
 use Rattle.theory.specs.Drive.{Drives}
-use Rattle.theory.proofs.ChainLaws.{ending-next, chain-end, chain-falls}
+use Rattle.theory.proofs.ChainLaws.{once-next, chain-end, chain-falls}
 use Rattle.theory.proofs.DriveLaws.{drives-none, follows-next, drives-step, chain-turn}
 use Rattle.graph.proofs.DecodeLaws.{the-producers, the-heads, value-of, next-of, link-in}
 use Rattle.initialization.specs.Start.{At}
@@ -20,13 +21,13 @@ use Rattle.graph32.proofs.value.Reads as value-reads
 use Rattle.initialization32.proofs.activate_atom.Reads as activate-atom-reads
 
 abbrev Inv-loop : tie.InvT-loop
-Inv-loop graph work₀ b p tail links t₀ l₀ work t l = Ending graph l × Drives (At b) (b .dependencies) work₀ tail (theoryOf graph .heads p) work t (chain graph l)
+Inv-loop graph work₀ b p tail from t₀ l₀ work t l = MeetsOnce graph l × Drives (At b) (b .dependencies) work₀ tail (theoryOf graph .heads p) work t (chain graph l)
 
 abbrev μ-loop : tie.MeasureT-loop
-μ-loop graph work₀ b p tail links t₀ l₀ work t l = length (chain graph l)
+μ-loop graph work₀ b p tail from t₀ l₀ work t l = length (chain graph l)
 
-link-records-requires : tie.Need-link-records-requires Inv-loop μ-loop
-link-records-requires c κs =
+links-from-requires : tie.Need-links-from-requires Inv-loop μ-loop
+links-from-requires c κs =
     let c-pre = c .before .before .pre in
     c-pre .0 .0 .size
 
@@ -47,29 +48,29 @@ loop-holds c =
 value-requires : tie.Need-value-requires Inv-loop μ-loop
 value-requires c κs =
     let c-loop = c .before .loop in
-    let c-link-records = c .before .before .before .link-records in
+    let c-links-from = c .before .before .before .links-from in
     let p1 = c .before .before .before .before .before .before in
     let c-pre = p1 .pre in
-    link-in (c-link-records .ensures) (c-pre .0 .0) (c-loop .inv .0) (λ z. omega arith)
+    link-in (c-links-from .ensures) (c-pre .0 .0) (c-loop .inv .0) (λ z. omega arith)
 
 next-requires : tie.Need-next-requires Inv-loop μ-loop
 next-requires c κs =
     let c-loop = c .before .before .loop in
     let p1 = c .before .before .before .before in
-    let c-link-records = p1 .link-records in
+    let c-links-from = p1 .links-from in
     let c-pre = p1 .before .before .before .pre in
-    link-in (c-link-records .ensures) (c-pre .0 .0) (c-loop .inv .0) (λ z. omega arith)
+    link-in (c-links-from .ensures) (c-pre .0 .0) (c-loop .inv .0) (λ z. omega arith)
 
 activate-atom-requires : tie.Need-activate-atom-requires Inv-loop μ-loop
 activate-atom-requires c κs =
     let c-value = c .before .before .value in
     let p1 = c .before .before .before .before in
     let c-loop = p1 .loop in
-    let c-link-records = p1 .before .before .link-records in
+    let c-links-from = p1 .before .before .links-from in
     let p2 = p1 .before .before .before .before .before in
     let c-pre = p2 .pre in
     let c-args = p2 .args in
-    (let a = c-pre .0 .0 in let m = c-pre .0 .1 in omega arith, follows-next (At (c-args .b)) (c-value .result ∷ []) (chain (now (c-args .graph)) (nextOf (now (c-args .graph)) (c-loop .l))) (chain-turn (now (c-args .graph)) (c-loop .inv .0) (λ z. omega arith) (value-of (c-link-records .ensures) (c-loop .l) (c-value .ensures) (omega arith)) refl) (c-loop .inv .1) (c-pre .1))
+    (let a = c-pre .0 .0 in let m = c-pre .0 .1 in omega arith, follows-next (At (c-args .b)) (c-value .result ∷ []) (chain (now (c-args .graph)) (nextOf (now (c-args .graph)) (c-loop .l))) (chain-turn (now (c-args .graph)) (c-loop .inv .0) (λ z. omega arith) (value-of (c-links-from .ensures) (c-loop .l) (c-value .ensures) (omega arith)) refl) (c-loop .inv .1) (c-pre .1))
 
 loop-less : tie.Need-loop-less Inv-loop μ-loop
 loop-less c =
@@ -77,9 +78,9 @@ loop-less c =
     let c-next = p1 .next in
     let c-loop = p1 .before .before .before .loop in
     let p2 = p1 .before .before .before .before .before in
-    let c-link-records = p2 .link-records in
+    let c-links-from = p2 .links-from in
     let c-args = p2 .before .before .before .args in
-    rw (next-of (c-link-records .ensures) (c-loop .l) (c-next .ensures) (omega arith)) (chain-falls (now (c-args .graph)) (c-loop .inv .0) (λ z. omega arith))
+    rw (next-of (c-links-from .ensures) (c-loop .l) (c-next .ensures) (omega arith)) (chain-falls (now (c-args .graph)) (c-loop .inv .0) (λ z. omega arith))
 
 loop-again : tie.Need-loop-again Inv-loop μ-loop
 loop-again c =
@@ -89,9 +90,9 @@ loop-again c =
     let c-value = p1 .before .value in
     let c-loop = p1 .before .before .before .loop in
     let p2 = p1 .before .before .before .before .before in
-    let c-link-records = p2 .link-records in
+    let c-links-from = p2 .links-from in
     let c-args = p2 .before .before .before .args in
-    (rw (next-of (c-link-records .ensures) (c-loop .l) (c-next .ensures) (omega arith)) (ending-next (now (c-args .graph)) (c-loop .inv .0) (λ z. omega arith)), drives-step (At (c-args .b)) (c-value .result ∷ []) (chain (now (c-args .graph)) (c-next .result)) (chain-turn (now (c-args .graph)) (c-loop .inv .0) (λ z. omega arith) (value-of (c-link-records .ensures) (c-loop .l) (c-value .ensures) (omega arith)) (next-of (c-link-records .ensures) (c-loop .l) (c-next .ensures) (omega arith))) (c-loop .inv .1) (c-activate-atom .ensures))
+    (rw (next-of (c-links-from .ensures) (c-loop .l) (c-next .ensures) (omega arith)) (once-next (now (c-args .graph)) (c-loop .inv .0) (λ z. omega arith)), drives-step (At (c-args .b)) (c-value .result ∷ []) (chain (now (c-args .graph)) (c-next .result)) (chain-turn (now (c-args .graph)) (c-loop .inv .0) (λ z. omega arith) (value-of (c-links-from .ensures) (c-loop .l) (c-value .ensures) (omega arith)) (next-of (c-links-from .ensures) (c-loop .l) (c-next .ensures) (omega arith))) (c-loop .inv .1) (c-activate-atom .ensures))
 
 same-length : tie.Need-same-length Inv-loop μ-loop
 same-length c =
@@ -111,7 +112,7 @@ activate-heads-spec =
     (tie.spec
     Inv-loop
     μ-loop
-    link-records-requires
+    links-from-requires
     first-head-requires
     loop-holds
     value-requires

@@ -32,6 +32,9 @@ enum-told-9 c = search needs
 enum-told-10 : tie.Need-enum-told-10
 enum-told-10 c = search needs
 
+enum-told-11 : tie.Need-enum-told-11
+enum-told-11 c = search needs
+
 returns : tie.Need-returns
 returns c = search needs
 
@@ -62,6 +65,9 @@ returns-9 c = search needs
 returns-10 : tie.Need-returns-10
 returns-10 c = search needs
 
+returns-11 : tie.Need-returns-11
+returns-11 c = search needs
+
 pub checked-number-spec : {M : Type 1} → statement M
 checked-number-spec =
     tie.close
@@ -76,6 +82,7 @@ checked-number-spec =
     enum-told-8
     enum-told-9
     enum-told-10
+    enum-told-11
     returns
     returns-2
     returns-3
@@ -85,4 +92,5 @@ checked-number-spec =
     returns-7
     returns-8
     returns-9
-    returns-10)
+    returns-10
+    returns-11)

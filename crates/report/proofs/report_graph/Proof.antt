@@ -4,10 +4,10 @@ use denote.Ref.{now}
 use Prim.Native.Nat.{_<_}
 use lib.ListN.{getD}
 use Rattle.theory.specs.Accepted.{edition1}
-use Rattle.graph.proofs.PlaceLaws.{graph-place}
-use Rattle.graph.specs.Answer.{Answer, refuse}
-use Rattle.graph.specs.Refusals.{answerOf}
-use Rattle.report.proofs.CallLaws.{print-refusal, checked-low, graph-accepts, answer-graph, answer-masks}
+use Rattle.refusals.proofs.PlaceLaws.{graph-place}
+use Rattle.refusals.specs.Answer.{Answer, refuse}
+use Rattle.refusals.specs.Refusals.{answerOf}
+use Rattle.report.proofs.CallLaws.{print-refusal, checked-other, graph-accepts, answer-graph, answer-masks}
 use borrow.Author.Needs.{needs}
 use Rattle.report.proofs.report_graph.Statement.{statement}
 use Rattle.report.proofs.report_graph.Tie as tie
@@ -45,7 +45,7 @@ returns c =
     let c-args = p2 .args in
     let a = answerOf (c-check .result) in
     print-refusal a 0 (answer-graph (now (c-args .graph)) (now (c-args .masks)) 0 a (sym (c-check .ensures)) (λ z. c-if1 .taken (c-checked-number .ensures .0 ∙ z)))
-    (c-checked-number .ensures .0) (c-checked-place .ensures) (c-if1 .taken) (λ z. absurd (omega (arith, z, checked-low (c-check .result)))) (c-put-refusal .ensures)
+    (c-checked-number .ensures .0) (c-checked-place .ensures) (c-if1 .taken) (λ z. absurd (checked-other (c-check .result) z)) (c-put-refusal .ensures)
 
 bad-masks-requires : tie.Need-bad-masks-requires
 bad-masks-requires c κs =

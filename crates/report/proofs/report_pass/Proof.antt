@@ -6,7 +6,7 @@ use Prim.Native.Nat.{_<_}
 use lib.ListN.{getD}
 use Rattle.theory.specs.Accepted.{edition1}
 use Rattle.founded.proofs.PlaceLaws.{completed-place}
-use Rattle.graph.specs.Answer.{Answer}
+use Rattle.refusals.specs.Answer.{Answer}
 use Rattle.founded.specs.Answers.{completedOf, Completes}
 use Rattle.report.proofs.CallLaws.{pass-row, accepted-few, print-refusal, print-both, lines-same}
 use borrow.Author.Needs.{needs}

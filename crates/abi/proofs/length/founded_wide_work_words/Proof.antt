@@ -3,8 +3,8 @@ use mathlib.Core.List.{[], _∷_}
 use denote.Ref.{now}
 use types.Run.{miss}
 use Rattle.theory.specs.Accepted.{edition2}
-use Rattle.graph.specs.Refusals.{answerOf}
-use Rattle.graph.proofs.AcceptedLaws.{accepted}
+use Rattle.refusals.specs.Refusals.{answerOf}
+use Rattle.refusals.proofs.AcceptedLaws.{accepted}
 use Rattle.abi.proofs.CodeLaws.{words-refused, words-accepted}
 use borrow.Author.Needs.{needs}
 use Rattle.abi.proofs.length.founded_wide_work_words.Statement.{statement}
@@ -19,7 +19,7 @@ enum-told c = search needs
 returns : tie.Need-returns
 returns c =
     let c-check = c .before .check in
-    words-refused edition2 (now (c .before .before .before .args .graph)) {c = c-check .result} (c-check .ensures) (λ e. miss (1 ∷ 2 ∷ 3 ∷ 4 ∷ 5 ∷ 6 ∷ 7 ∷ 8 ∷ 9 ∷ []) 0 tt (rw e at (c .match .keys2)))
+    words-refused edition2 (now (c .before .before .before .args .graph)) {c = c-check .result} (c-check .ensures) (λ e. miss (1 ∷ 2 ∷ 3 ∷ 4 ∷ 5 ∷ 6 ∷ 7 ∷ 8 ∷ 9 ∷ 10 ∷ []) 0 tt (rw e at (c .match .keys2)))
 
 words-requires : tie.Need-words-requires
 words-requires c κs =

@@ -4,7 +4,7 @@ use native.Mathlib.Omega.{arith}
 use denote.Ref.{now}
 use lib.ListN.{getD}
 use Rattle.theory.specs.Accepted.{edition2}
-use Rattle.graph.proofs.PlaceLaws.{graph-place}
+use Rattle.refusals.proofs.PlaceLaws.{graph-place}
 use borrow.Author.Needs.{needs}
 use Rattle.abi.proofs.wide.founded_wide_check.Statement.{statement}
 use Rattle.abi.proofs.wide.founded_wide_check.Tie as tie

@@ -1,0 +1,4 @@
+pub mod Passed
+pub mod Search
+pub mod Answer
+pub mod Refusals
