@@ -8,7 +8,7 @@ use paper::{Graph, Prepared, Refusal};
 
 use crate::calls::{Calls, Word, widened};
 use crate::content::laid_out;
-use crate::ours::{Lengths, Made, Ours};
+use crate::ours::{Lengths, Made, NUMBERS, Ours};
 
 /// The node mask, then the atom mask.
 pub type Masks = (Vec<u64>, Vec<u64>);
@@ -19,7 +19,7 @@ pub struct Tally {
     pub accepted: u64,
     /// Graphs turned away, by number. Those with 12 are among the accepted:
     /// the graph check passes them.
-    pub refused: [u64; 13],
+    pub refused: [u64; NUMBERS],
     pub loops: u64,
     /// Accepted graphs with kind 7 outside the cone alone.
     pub outside: u64,
@@ -194,19 +194,43 @@ pub fn compare_both(
     Ok(())
 }
 
-/// Words of edition 2 with the content of a graph whose answers are known.
-fn equal_content(
-    words: &[u32],
+/// Compare all answers on the words; and then, in either edition, on words that
+/// differ from them in the numbering of their links alone.
+///
+/// # Errors
+/// The first difference.
+pub fn compare_renumbered(
+    words: &[u16],
+    numberings: &[Vec<u16>],
     masks: &[Masks],
-    answers: &Answers,
+    narrow: &mut Side<u16>,
     wide: &mut Side<u32>,
 ) -> Result<(), Difference> {
+    let Some(answers) = compare(words, masks, narrow)? else {
+        return Err(on(words, None)(
+            "a graph to be renumbered is refused".into(),
+        ));
+    };
+    for words in numberings {
+        equal_content(words, masks, &answers, narrow)?;
+        equal_content(&widened(words), masks, &answers, wide)?;
+    }
+    Ok(())
+}
+
+/// Words with the content of a graph whose answers are known.
+fn equal_content<W: Word>(
+    words: &[W],
+    masks: &[Masks],
+    answers: &Answers,
+    side: &mut Side<W>,
+) -> Result<(), Difference> {
     if Graph::decode(words).as_ref() != Ok(&answers.graph) {
-        let what = "edition 2 reads another graph from words of the same content";
+        let what = "another graph is read from words of the same content";
         return Err(on(words, None)(what.into()));
     }
-    wide.tally.count(answers);
-    proved(words, masks, answers, &mut wide.ours)
+    side.tally.count(answers);
+    proved(words, masks, answers, &mut side.ours)
 }
 
 /// A pair that cuts nothing, for a graph that is accepted.
@@ -350,7 +374,7 @@ fn proved<W: Word>(
     Ok(())
 }
 
-/// 1 to 9 come before any length, so all lengths are free here; the work area
+/// 1 to 9 and 14 come before any length, so all lengths are free here; the work area
 /// has that of the empty graph.
 fn refused<W: Word>(refusal: &Refusal, ours: &mut Ours<W>) -> Result<(), String> {
     let work = W::EDITION.work_words(&Graph::default());

@@ -65,6 +65,8 @@ pub fn all<W: Word>() -> Vec<Edge<W>> {
     first_links(&mut list);
     rules(&mut list);
     links(&mut list);
+    circles(&mut list);
+    circles_of_nodes(&mut list);
     leaf_chains(&mut list);
     head_chains(&mut list);
     totals(&mut list);
@@ -232,42 +234,118 @@ fn rules<W: Word>(list: &mut List<W>) {
 
 /// Row 6.
 fn links<W: Word>(list: &mut List<W>) {
-    let with = |links: &[[u32; 2]]| draft(1, &[], &[[0, 1]], links);
-    list.passes("next one above", &with(&[[0, 2], [0, 0]]));
-    list.passes("next equal to K", &with(&[[0, 3], [0, 0], [0, 0]]));
-    list.refused("next equal to its own link", 6, 1, &with(&[[0, 1]]));
-    list.refused("next above K", 6, 1, &with(&[[0, 2]]));
-    list.refused("next far above K", 6, 2, &with(&[[0, 2], [0, far::<W>()]]));
-    list.refused("next below its own link", 6, 2, &with(&[[0, 2], [0, 1]]));
+    let with = |first: u32, links: &[[u32; 2]]| draft(1, &[], &[[0, first]], links);
+    list.passes("next one above", &with(1, &[[0, 2], [0, 0]]));
+    list.passes("next one below", &with(2, &[[0, 0], [0, 1]]));
+    list.passes("next equal to K", &with(1, &[[0, 3], [0, 0], [0, 0]]));
+    list.refused("next above K", 6, 1, &with(1, &[[0, 2]]));
+    let far = [[0, 2], [0, far::<W>()]];
+    list.refused("next far above K", 6, 2, &with(1, &far));
+    let unused = [[0, 0], [0, 3]];
+    list.refused("unused link with next above K", 6, 2, &with(1, &unused));
+    let two = [[0, 0], [0, 4], [0, 5]];
+    list.refused("first of two bad links", 6, 2, &with(1, &two));
+    let wild = [[0, 0], [W::MAX.into(), 0]];
+    list.passes("unused link with a wild value", &with(1, &wild));
+    for (name, next) in [("into a chain", 3), ("into another", 1)] {
+        let links = [[0, 3], [9, next], [0, 0]];
+        list.passes(&format!("unused link {name}"), &with(1, &links));
+    }
+}
+
+/// Row 14, of rules: a chain comes back, or a circle is in no chain.
+fn circles<W: Word>(list: &mut List<W>) {
+    let with = |first: u32, links: &[[u32; 2]]| draft(1, &[], &[[0, first]], links);
+    let edition = W::EDITION.number;
+    let entered = [edition, 1, 1, 1, 3, 1, 0, 0, 1, 1, 0, 2, 0, 3, 0, 2];
+    list.words("request 5's circle", &entered, Some((14, 0)));
+    let lone = [edition, 0, 0, 0, 1, 0, 1];
+    list.words("request 5's lone circle", &lone, None);
+    for (name, first, links) in [
+        ("an own link", 1, &[[0, 1]][..]),
+        ("an own link behind another", 1, &[[0, 2], [0, 2]]),
+        ("an own link before another", 2, &[[0, 1], [0, 1]]),
+        ("two links", 1, &[[0, 2], [0, 1]]),
+        ("two links, from the second", 2, &[[0, 2], [0, 1]]),
+        ("two links behind another", 1, &[[0, 2], [0, 3], [0, 2]]),
+        ("two links before another", 3, &[[0, 2], [0, 1], [0, 1]]),
+        ("all links", 3, &[[0, 3], [0, 1], [0, 2]]),
+        ("its first link again", 2, &[[0, 3], [0, 1], [0, 2]]),
+    ] {
+        list.refused(name, 14, 0, &with(first, links));
+    }
+    for (name, first, links) in [
+        ("an own link in no chain", 1, &[[0, 0], [0, 2]][..]),
+        ("two in no chain", 3, &[[9, 2], [9, 1], [0, 0]]),
+        (
+            "a way into a circle, in no chain",
+            1,
+            &[[0, 0], [9, 3], [9, 3]],
+        ),
+        ("K links downward", 3, &[[0, 0], [0, 1], [0, 2]]),
+        ("K links in another order", 1, &[[0, 3], [0, 0], [0, 2]]),
+        ("no chain at all", 0, &[[9, 2], [9, 1], [9, 3]]),
+    ] {
+        list.passes(name, &with(first, links));
+    }
+    let own = [[0, 0], [0, 2], [0, 3]];
+    let rules = |firsts: &[u32]| draft(1, &[], &facts(firsts), &own);
+    list.refused("the last rule's", 14, 2, &rules(&[0, 1, 2]));
+    list.refused("first of two rules", 14, 1, &rules(&[1, 3, 2]));
+    let tail = [[0, 3], [0, 3], [0, 3]];
+    let shared = draft(1, &[], &facts(&[0, 2, 1]), &tail);
+    list.refused("a shared tail with a circle", 14, 1, &shared);
+    longest(list);
+}
+
+/// Row 14 on the most links: all different, then the last leads back.
+fn longest<W: Word>(list: &mut List<W>) {
+    let [_, last, _] = limits::<W>();
+    let mut down: Vec<[u32; 2]> = (0..last).map(|next| [0, next]).collect();
+    let with = |links: &[[u32; 2]]| draft(1, &[], &[[0, last]], links);
+    list.passes("the most links downward", &with(&down));
+    down[0][1] = last;
+    list.refused("the most links in a circle", 14, 0, &with(&down));
+    down[0][1] = 1;
+    list.refused("the most links, then an own one", 14, 0, &with(&down));
+}
+
+/// Row 14, of nodes, and before which rows it stands.
+fn circles_of_nodes<W: Word>(list: &mut List<W>) {
+    let f = [FALSE, 0, 0];
+    for kind in [AND, OR] {
+        let node = |links: &[[u32; 2]]| draft(1, &[f, f, [kind, 0, 1]], &[], links);
+        list.refused("a node's own link", 14, 2, &node(&[[0, 1]]));
+        let entered = [[0, 3], [0, 0], [0, 3]];
+        list.refused("a node's circle from outside", 14, 2, &node(&entered));
+        list.passes("leaves downward", &node(&[[1, 3], [0, 0], [1, 2]]));
+        list.passes("a circle beside a node", &node(&[[1, 0], [9, 2]]));
+    }
+    let nodes = |firsts: &[u32], rules: &[u32], links: &[[u32; 2]]| {
+        draft(1, &conjunctions(firsts), &facts(rules), links)
+    };
+    let own = [[0, 0], [0, 2], [0, 3]];
+    list.refused("first of two nodes", 14, 2, &nodes(&[1, 3, 2], &[], &own));
+    list.refused("a node before a rule", 14, 2, &nodes(&[1, 2], &[2], &own));
+    list.refused("a rule and no node", 14, 1, &nodes(&[1, 1], &[1, 2], &own));
+    let above = [[0, 1], [0, 3]];
+    list.refused("6 before 14", 6, 2, &nodes(&[1], &[1], &above));
+    let leaf = [[0, 1], [9, 0]];
     list.refused(
-        "last next equal to its own link",
-        6,
+        "14 of a later node before 7",
+        14,
         2,
-        &with(&[[0, 2], [0, 2]]),
+        &nodes(&[2, 1], &[], &leaf),
     );
+    list.refused("14 of a rule before 7", 14, 1, &nodes(&[2], &[0, 1], &leaf));
+    list.refused("14 and 7 of one node", 14, 1, &nodes(&[1], &[], &[[9, 1]]));
+    list.refused("14 and 8 of one rule", 14, 0, &nodes(&[], &[1], &[[9, 1]]));
     list.refused(
-        "unused link with a bad next",
-        6,
-        2,
-        &with(&[[0, 0], [0, 2]]),
+        "14 of a later rule before 8",
+        14,
+        1,
+        &nodes(&[], &[2, 1], &leaf),
     );
-    list.refused(
-        "unused link with next above K",
-        6,
-        2,
-        &with(&[[0, 0], [0, 3]]),
-    );
-    list.refused(
-        "first of two bad links",
-        6,
-        2,
-        &with(&[[0, 0], [0, 1], [0, 3]]),
-    );
-    list.passes(
-        "unused link with a wild value",
-        &with(&[[0, 0], [far::<W>(), 0]]),
-    );
-    list.passes("unused link into a chain", &with(&[[0, 3], [9, 3], [0, 0]]));
 }
 
 /// Row 7.
@@ -393,6 +471,15 @@ fn totals<W: Word>(list: &mut List<W>) {
     );
     let both = draft(1, &conjunctions(&[1]), &facts(&[1]), &long);
     list.passes("the most leaf and head entries", &both);
+    let down: Vec<[u32; 2]> = (0..most).map(|next| [0, next]).collect();
+    let firsts = vec![most; times];
+    let walked = draft(1, &conjunctions(&firsts), &facts(&firsts), &down);
+    list.refused(
+        "nodes and rules share the longest chain, downward",
+        9,
+        0,
+        &walked,
+    );
     let unsunk = draft(1, &conjunctions(&[1]), &[[0, 0]], &long);
     list.passes("the most leaf entries outside every cone", &unsunk);
 }
@@ -436,11 +523,11 @@ fn after_the_totals<W: Word>(list: &mut List<W>) {
     );
 }
 
-/// Rows 4 to 9 of one graph, each fault mended in turn.
+/// Rows 4 to 9 and 14 of one graph, each fault mended in turn.
 fn order<W: Word>(list: &mut List<W>) {
     let [_, last, _] = limits::<W>();
     let mut links = long_chain(last - 2);
-    links.extend([[1, 0], [9, last]]);
+    links.extend([[1, 0], [9, last + 1]]);
     let mut graph = draft(
         1,
         &[[FALSE, 0, 0], [8, 0, 0], [AND, 0, last - 1]],
@@ -454,6 +541,8 @@ fn order<W: Word>(list: &mut List<W>) {
     graph.rules[0] = [0, 0];
     list.refused("6 before 7", 6, last, &graph);
     let at = last as usize - 1;
+    graph.links[at][1] = last;
+    list.refused("14 before 7", 14, 1, &graph);
     graph.links[at][1] = 0;
     list.refused("7 before 8", 7, 1, &graph);
     graph.nodes[1] = [FALSE, 0, 0];
@@ -547,6 +636,12 @@ fn upper_halves<W: Word>(list: &mut List<W>) {
     nodes[many] = [AND, 0, 1];
     list.refused("7 above 65535", 7, last, &with(&nodes, &[], &[[last, 0]]));
     list.passes("a leaf above 65535", &with(&nodes, &[], &[[last - 1, 0]]));
+    list.refused(
+        "14 of a node above 65535",
+        14,
+        last,
+        &with(&nodes, &[], &[[0, 1]]),
+    );
     nodes[many] = [ABSORBED, 0, 0];
     list.passes("12 above 65535", &with(&nodes, &[[last + 1, 1]], &[[0, 0]]));
     list.passes(
@@ -559,9 +654,21 @@ fn upper_halves<W: Word>(list: &mut List<W>) {
     rules[many] = [0, 1];
     let beyond = with(&[], &rules, &[[last + 1, 0]]);
     list.refused("8 above 65535", 8, last, &beyond);
+    list.refused(
+        "14 of a rule above 65535",
+        14,
+        last,
+        &with(&[], &rules, &[[0, 1]]),
+    );
     let mut links = vec![[0, 0]; many - 1];
-    links.push([0, last]);
+    links.push([0, last + 1]);
     list.refused("6 above 65535", 6, last, &with(&[], &[], &links));
+    links[many - 1] = [0, last];
+    list.passes("an own link above 65535", &with(&[], &[], &links));
+    let reached = with(&[], &[[0, last]], &links);
+    list.refused("an own link above 65535 in a chain", 14, 0, &reached);
+    links[many - 1] = [0, last - HALF];
+    list.passes("a next far below", &with(&[], &[[0, last]], &links));
 }
 
 /// More entries than 32 bits can count, exactly as many as leave nothing in them:

@@ -11,6 +11,9 @@ use paper::{Graph, Refusal};
 use crate::calls::{Calls, Word};
 use crate::rng::Rng;
 
+/// The numbers of refusals are below this.
+pub const NUMBERS: usize = 15;
+
 /// How often each call was made, and how often one was turned away, by number.
 #[derive(Clone, Copy, Debug, Default, PartialEq, Eq)]
 pub struct Made {
@@ -20,7 +23,7 @@ pub struct Made {
     pub needed: u64,
     pub prepare: u64,
     pub complete: u64,
-    pub refused: [u64; 13],
+    pub refused: [u64; NUMBERS],
 }
 
 impl Made {
@@ -381,7 +384,7 @@ impl<W: Word> Ours<W> {
         let (due, held) = match refused.map_or(0, |refusal| refusal.number) {
             0 | 12 => ("all zero", self.work.was_cleared()),
             // Left to `unchanged`.
-            1..=9 => return Ok(()),
+            1..=9 | 14 => return Ok(()),
             _ => ("unchanged", self.work.unchanged()),
         };
         if held {
@@ -402,6 +405,6 @@ impl<W: Word> Ours<W> {
         if self.work.unchanged() {
             return Ok(());
         }
-        Err("our work area is not unchanged after 1 to 9, or what is beside it".into())
+        Err("our work area is not unchanged after the graph's refusal, or what is beside it".into())
     }
 }

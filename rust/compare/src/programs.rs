@@ -12,6 +12,8 @@ use std::io;
 pub use inputs::{Input, MOST, all};
 pub use process::process;
 
+use crate::ours::NUMBERS;
+
 /// The seed and the count that the gate's run has.
 pub const SEED: u64 = 20_261_117;
 pub const COUNT: u64 = 300;
@@ -45,7 +47,7 @@ impl Ended {
 pub struct Tally {
     pub runs: u64,
     /// Runs turned away, by number.
-    pub refused: [u64; 13],
+    pub refused: [u64; NUMBERS],
     pub with_missing: u64,
     /// Runs whose input came in several pieces.
     pub slow: u64,

@@ -1,5 +1,6 @@
 //! Random graphs: shared tails, repeats, facts, empty And and Or, opaque kinds,
-//! kind 7 in and out of the cone, unused links with wild values.
+//! kind 7 in and out of the cone, unused links with wild values, circles among
+//! them, links in any order.
 
 use crate::agree::Masks;
 use crate::calls::{Word, word};
@@ -48,7 +49,7 @@ const fn scale(least: usize, most: [usize; 3], list: usize, links: usize) -> Sca
     }
 }
 
-/// Links under construction. They are made from the last to the first, since a
+/// Links under construction. They are made from the last to the first, so that a
 /// next is greater than its own link: `next` is a position in `made`, plus 1.
 struct Links<W> {
     made: Vec<(W, usize)>,
@@ -127,6 +128,16 @@ impl<W: Word> Links<W> {
         self.push(wild, next);
     }
 
+    /// Up to three links that no chain can take up any more, their nexts anything:
+    /// they lead into chains, to each other and to themselves.
+    fn loose(&mut self, rng: &mut Rng) {
+        let last = (self.made.len() + rng.between(1, 3)).min(self.room);
+        while self.made.len() < last {
+            let next = rng.between(last.saturating_sub(4), last);
+            self.push(W::cut(rng.word()), next);
+        }
+    }
+
     /// The final number of a link: the last made is link 1.
     fn number(&self, link: usize) -> W {
         word(if link == 0 {
@@ -185,6 +196,9 @@ pub fn graph<W: Word>(rng: &mut Rng, scale: Scale) -> Vec<W> {
         firsts.push(links.chain(rng, atoms, scale.list.min(4)));
         draft.rules.push([word(body(rng, nodes)), word(0)]);
     }
+    if rng.chance(1, 4) {
+        links.loose(rng);
+    }
     for (node, &first) in draft.nodes.iter_mut().zip(&firsts) {
         node[2] = links.number(first);
     }
@@ -192,7 +206,48 @@ pub fn graph<W: Word>(rng: &mut Rng, scale: Scale) -> Vec<W> {
         rule[1] = links.number(first);
     }
     draft.links = links.records();
-    draft.words()
+    let words = draft.words();
+    if rng.chance(1, 4) {
+        words
+    } else {
+        renumbered(rng, &words)
+    }
+}
+
+/// The same content, its links numbered at random.
+pub fn renumbered<W: Word>(rng: &mut Rng, words: &[W]) -> Vec<W> {
+    let links = words[4].number();
+    let mut numbers: Vec<usize> = (0..=links).collect();
+    for link in 2..=links {
+        numbers.swap(link, rng.between(1, link));
+    }
+    with_numbers(words, &numbers)
+}
+
+/// The same content, its links numbered from the last to the first.
+pub fn turned<W: Word>(words: &[W]) -> Vec<W> {
+    let links = words[4].number();
+    let numbers: Vec<usize> = std::iter::once(0).chain((1..=links).rev()).collect();
+    with_numbers(words, &numbers)
+}
+
+/// The same content, link l being link `numbers[l]`. First links and nexts are at
+/// most K.
+fn with_numbers<W: Word>(words: &[W], numbers: &[usize]) -> Vec<W> {
+    let [n, p, k] = [2, 3, 4].map(|i| words[i].number());
+    let number = |old: W| word(numbers[old.number()]);
+    let nodes = (0..n).map(|c| 5 + 3 * c + 2);
+    let rules = (0..p).map(|r| 5 + 3 * n + 2 * r + 1);
+    let mut new = words.to_vec();
+    for at in nodes.chain(rules) {
+        new[at] = number(words[at]);
+    }
+    let links = words.len() - 2 * k;
+    for (link, record) in (1..).zip(words[links..].chunks(2)) {
+        let at = links + 2 * (numbers[link] - 1);
+        (new[at], new[at + 1]) = (record[0], number(record[1]));
+    }
+    new
 }
 
 /// Atoms mostly, then And and Or; low numbers have few leaves to take.

@@ -1,8 +1,10 @@
 //! Families of graphs compared.
 
-use std::collections::BTreeMap;
+use std::collections::{BTreeMap, BTreeSet};
 
-use crate::agree::{Difference, Masks, Side, Tally, compare, compare_both, wrong_lengths};
+use crate::agree::{
+    Difference, Masks, Side, Tally, compare, compare_both, compare_renumbered, wrong_lengths,
+};
 use crate::calls::{Word, widened};
 use crate::random::{SCALES, Scale};
 use crate::rng::Rng;
@@ -113,6 +115,24 @@ pub fn graphs(seed: u64, from: u64, to: u64) -> Compared {
         }
     })
 }
+
+/// Random graphs `from` up to `to`, each under three random numberings of its
+/// links and under the one that is the wrong way round, with two pairs of masks.
+pub fn renumbered(seed: u64, from: u64, to: u64) -> Compared {
+    let (mut narrow, mut wide) = (Side::new(u16::ARCHIVE), Side::new(u32::ARCHIVE));
+    for i in from..to {
+        let mut rng = numbered(seed ^ RENUMBERED, i);
+        let words: Vec<u16> = random::graph(&mut rng, SCALES[scale(i)]);
+        let masks = random::masks(&mut rng, &words, 2);
+        let mut numberings = vec![random::turned(&words)];
+        numberings.extend((0..3).map(|_| random::renumbered(&mut rng, &words)));
+        compare_renumbered(&words, &numberings, &masks, &mut narrow, &mut wide)?;
+    }
+    Ok([narrow.tally(), wide.tally()])
+}
+
+/// What the generators of these graphs differ in from those of the random ones.
+const RENUMBERED: u64 = 0x5555_0000_0000_0000;
 
 /// Damaged copies of small random graphs.
 pub fn damaged(seed: u64, from: u64, to: u64) -> Compared {
@@ -237,14 +257,16 @@ pub fn tiny_sizes(boxes: &[ContentBox]) -> Vec<Sizes> {
 }
 
 /// The largest counts of tiny word patterns: atoms, nodes, rules, links.
-pub const QUICK_PATTERNS: [u16; 4] = [1, 1, 1, 2];
-pub const LONG_PATTERNS: [u16; 4] = [1, 2, 1, 2];
+pub const QUICK_PATTERNS: [[u16; 4]; 1] = [[1, 1, 1, 2]];
+pub const LONG_PATTERNS: [[u16; 4]; 2] = [[1, 2, 1, 2], [1, 1, 1, 3]];
 
-/// Every combination of counts up to these.
-pub fn tiny_counts([atoms, nodes, rules, links]: [u16; 4]) -> Vec<[u16; 4]> {
-    let firsts = (0..=atoms).flat_map(|a| (0..=nodes).map(move |n| [a, n]));
-    let lasts = move || (0..=rules).flat_map(move |r| (0..=links).map(move |l| [r, l]));
-    firsts
-        .flat_map(|[a, n]| lasts().map(move |[r, l]| [a, n, r, l]))
-        .collect()
+/// Every combination of counts up to some of these.
+pub fn tiny_counts(boxes: &[[u16; 4]]) -> BTreeSet<[u16; 4]> {
+    let mut counts = BTreeSet::new();
+    for &[atoms, nodes, rules, links] in boxes {
+        for (a, n) in (0..=atoms).flat_map(|a| (0..=nodes).map(move |n| (a, n))) {
+            counts.extend((0..=rules).flat_map(|r| (0..=links).map(move |l| [a, n, r, l])));
+        }
+    }
+    counts
 }

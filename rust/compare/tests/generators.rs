@@ -17,6 +17,8 @@ struct Seen {
     absorbed_inside: usize,
     absorbed_outside: usize,
     wild_links: usize,
+    nexts_below: usize,
+    own_links: usize,
 }
 
 impl Seen {
@@ -39,7 +41,11 @@ impl Seen {
         let absorbed = graph.nodes.iter().any(|node| node.kind == Kind::Absorbed);
         let entries: usize = lists().map(Vec::len).sum();
         let links = usize::from(words[4]);
-        let values = words[words.len() - 2 * links..].iter().step_by(2);
+        let records = words[words.len() - 2 * links..].as_chunks::<2>().0;
+        let mut values = records.iter().map(|&[value, _]| value);
+        let mut nexts = (1..).zip(records.iter().map(|&[_, next]| next));
+        self.nexts_below += usize::from(nexts.clone().any(|(own, next)| next > 0 && next < own));
+        self.own_links += usize::from(nexts.any(|(own, next)| next == own));
         self.shared_tails += usize::from(entries > links);
         self.repeats += usize::from(lists().any(repeats));
         self.facts += usize::from(graph.rules.iter().any(|rule| rule.body.is_none()));
@@ -49,7 +55,7 @@ impl Seen {
         self.opaque += usize::from(empty(Kind::Opaque));
         self.absorbed_inside += usize::from(absorbed && graph.prepared().is_err());
         self.absorbed_outside += usize::from(absorbed && graph.prepared().is_ok());
-        self.wild_links += usize::from(values.into_iter().any(|&value| value > 1_024));
+        self.wild_links += usize::from(values.any(|value| value > 1_024));
     }
 
     fn least(&self) -> usize {
@@ -64,6 +70,8 @@ impl Seen {
             self.absorbed_inside,
             self.absorbed_outside,
             self.wild_links,
+            self.nexts_below,
+            self.own_links,
         ];
         counts.into_iter().min().unwrap_or(0)
     }
@@ -77,6 +85,23 @@ fn features_of_random_graphs() {
         seen.add(&random::graph::<u16>(&mut rng, SCALES[i % 3]));
     }
     assert!(seen.least() >= 50, "{seen:?}");
+}
+
+/// Another numbering of the links leaves the content, and the numbers differ.
+#[test]
+fn renumbered_graphs() {
+    let mut rng = Rng::new(8);
+    let mut differ = 0;
+    for i in 0..3_000 {
+        let words: Vec<u16> = random::graph(&mut rng, SCALES[i % 3]);
+        let graph = Graph::decode(&words);
+        let turned = random::turned(&words);
+        assert_eq!(random::turned(&turned), words);
+        let others = [random::renumbered(&mut rng, &words), turned];
+        assert!(others.iter().all(|other| Graph::decode(other) == graph));
+        differ += usize::from(others.iter().all(|other| *other != words));
+    }
+    assert!(differ > 2_000, "{differ}");
 }
 
 /// Some random graphs fill every count, and some entries come close to 4,096.

@@ -271,7 +271,7 @@ fn faults<W: Word>() -> Vec<(Calls<W>, &'static str)> {
         ),
         (
             with(|calls| calls.needed = fault::work_of_4),
-            "our work area is not unchanged after 1 to 9",
+            "our work area is not unchanged after the graph's refusal",
         ),
         (
             with(|calls| calls.prepare = fault::untouched),

@@ -41,8 +41,8 @@ fn the_papers_own_text_is_no_difference() {
     let tally = found(&right).unwrap_or_else(|difference| panic!("{difference}"));
     println!("{tally}");
     assert!(tally.slow > 80 && tally.long > 25 && tally.with_missing > 100);
-    // Each number but 11: the work area is the program's own.
-    for number in (1..=12).filter(|&number| number != 11) {
+    // Each number but 11, since the work area is the program's own, and 13, which no call has yet.
+    for number in (1..=14).filter(|number| ![11, 13].contains(number)) {
         assert!(tally.refused[number] > 5, "{number}");
     }
 }
@@ -339,7 +339,7 @@ fn faults_in_printing_are_found() {
         let program: Program = Box::new(move |p| Ended::printing(print(text(&p.concat()))));
         faults.push((name.into(), program));
     }
-    for number in (1..=12).filter(|&number| number != 11) {
+    for number in (1..=14).filter(|number| ![11, 13].contains(number)) {
         let program: Program = Box::new(move |pieces| {
             let text = text(&pieces.concat());
             Ended::printing(print::refusal(text, number, |numbers| numbers[0] += 1))

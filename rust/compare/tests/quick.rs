@@ -82,7 +82,7 @@ fn every_tiny_content() {
 
 #[test]
 fn every_tiny_pattern() {
-    for counts in runs::tiny_counts(runs::QUICK_PATTERNS) {
+    for counts in runs::tiny_counts(&runs::QUICK_PATTERNS) {
         runs::patterns(counts).expect("no difference");
     }
 }
@@ -90,6 +90,11 @@ fn every_tiny_pattern() {
 #[test]
 fn random_graphs() {
     runs::graphs(1, 0, 20_000).expect("no difference");
+}
+
+#[test]
+fn renumbered_links() {
+    runs::renumbered(1, 0, 4_000).expect("no difference");
 }
 
 #[test]

@@ -25,12 +25,12 @@ fn work_area<W: Word>(length: usize, graph: &Graph) -> Result<(), Refusal> {
     Ok(())
 }
 
-/// The words of the work area that row 11 asks for, 0 where rows 1 to 9 refuse.
+/// The words of the work area that row 11 asks for, 0 where the check refuses.
 pub fn work_words<W: Word>(words: &[W]) -> usize {
     Graph::decode(words).map_or(0, |graph| W::EDITION.work_words(&graph))
 }
 
-/// The loop test: rows 1 to 9 and 11.
+/// The loop test: rows 1 to 9, 14 and 11.
 ///
 /// # Errors
 /// The first row that applies.
@@ -40,7 +40,7 @@ pub fn needed<W: Word>(words: &[W], work_len: usize) -> Result<bool, Refusal> {
     Ok(graph.loops())
 }
 
-/// Preparation: rows 1 to 9, 10 for its output, 11 and 12. The output's words.
+/// Preparation: rows 1 to 9 and 14, 10 for its output, 11 and 12. The output's words.
 ///
 /// # Errors
 /// The first row that applies.

@@ -1,9 +1,9 @@
-//! Document 01, and request 9 of document 02, in slow, plain Rust, written from
-//! their text alone.
+//! Document 01, and requests 5 and 9 of document 02, in slow, plain Rust, written
+//! from their text alone.
 //!
 //! - [`Edition`], [`Word`]: what an edition has of its own; 16-bit words are of
 //!   edition 1, 32-bit words of edition 2;
-//! - [`check`]: the refusal table's rows 1 to 9;
+//! - [`check`]: the refusal table's rows 1 to 9 and 14;
 //! - [`needed`], [`prepare`], [`complete`]: the calls, with rows 10 to 12;
 //! - [`work_words`]: the length that row 11 asks for;
 //! - [`program`]: standard input's bytes to the program's text;

@@ -1,5 +1,6 @@
-//! "Where a call is turned away": the table's rows, in its order. 1, 2, 9 and 11
-//! read the edition's numbers.
+//! "Where a call is turned away": the table's rows, in its order; by request 5
+//! of document 02 14 stands between 6 and 7. 1, 2, 9 and 11 read the edition's
+//! numbers.
 
 use crate::edition::{Edition, Word};
 
@@ -20,7 +21,7 @@ impl Refusal {
     }
 }
 
-/// Rows 1 to 9.
+/// Rows 1 to 9 and 14.
 ///
 /// # Errors
 /// The first row of the table that applies.
@@ -34,7 +35,12 @@ pub fn check<W: Word>(words: &[W]) -> Result<(), Refusal> {
     };
     first(4, (0..parts.n).find(|&c| parts.bad_condition(c)))?;
     first(5, (0..parts.p).find(|&r| parts.bad_rule(r)))?;
-    first(6, (1..=parts.k).find(|&l| parts.bad_link(l)))?;
+    first(6, (1..=parts.k).find(|&l| parts.link(l)[1] > parts.k))?;
+    let mut met = Met::new(parts.k);
+    let leaves = |c: usize| parts.links(parts.condition(c)[2]);
+    let heads = |r: usize| parts.links(parts.rule(r)[1]);
+    first(14, (0..parts.n).find(|&c| met.come_back(leaves(c))))?;
+    first(14, (0..parts.p).find(|&r| met.come_back(heads(r))))?;
     first(
         7,
         (0..parts.n).find(|&c| parts.leaves(c).any(|leaf| leaf >= c)),
@@ -134,16 +140,15 @@ impl<'a, W: Word> Parts<'a, W> {
         body_after > self.n || first > self.k
     }
 
-    fn bad_link(&self, l: usize) -> bool {
-        let [_, next] = self.link(l);
-        next > self.k || (next != 0 && next <= l)
-    }
-
-    /// The values along the chain from `first`; link 0 ends it.
-    fn chain(self, first: usize) -> impl Iterator<Item = usize> + 'a {
+    /// The links along the chain from `first`; link 0 ends it.
+    fn links(self, first: usize) -> impl Iterator<Item = usize> + 'a {
         let link = |l: usize| (l != 0).then_some(l);
         std::iter::successors(link(first), move |&l| link(self.link(l)[1]))
-            .map(move |l| self.link(l)[0])
+    }
+
+    /// The values along a chain, which does not come back.
+    fn chain(self, first: usize) -> impl Iterator<Item = usize> + 'a {
+        self.links(first).map(move |l| self.link(l)[0])
     }
 
     pub(crate) fn leaves(self, c: usize) -> impl Iterator<Item = usize> + 'a {
@@ -152,5 +157,34 @@ impl<'a, W: Word> Parts<'a, W> {
 
     pub(crate) fn heads(self, r: usize) -> impl Iterator<Item = usize> + 'a {
         self.chain(self.rule(r)[1])
+    }
+}
+
+/// The links met in one chain after another: each has the number of the first
+/// chain that met it, from 1.
+struct Met {
+    chains: Vec<usize>,
+    chain: usize,
+}
+
+impl Met {
+    fn new(links: usize) -> Self {
+        Self {
+            chains: vec![0; links + 1],
+            chain: 0,
+        }
+    }
+
+    /// Whether the next chain comes back to one of its own links. No chain before
+    /// it did, so that a link of one of them leads to the end.
+    fn come_back(&mut self, links: impl Iterator<Item = usize>) -> bool {
+        self.chain += 1;
+        for link in links {
+            if self.chains[link] != 0 {
+                return self.chains[link] == self.chain;
+            }
+            self.chains[link] = self.chain;
+        }
+        false
     }
 }

@@ -1,8 +1,9 @@
 //! The long comparison: `compare-long SEED COUNT`.
 //!
-//! Compares the limits, every tiny content and pattern, COUNT random graphs
-//! and a quarter as many damaged copies, in the original, in the papers'
-//! reading and through the archive, each in edition 1 and laid out in edition 2;
+//! Compares the limits, every tiny content and pattern, COUNT random graphs, a
+//! quarter as many under other numberings of their links and as many damaged
+//! copies, in the original, in the papers' reading and through the archive, each
+//! in edition 1 and laid out in edition 2;
 //! then the limits of edition 2, as many copies damaged in its own words, and
 //! random graphs above edition 1's limits, one of the largest for each 100,000 of
 //! COUNT. It prints what it compared, and ends with 1 at the first difference.
@@ -68,7 +69,7 @@ fn all(seed: u64, count: u64) -> Result<Families, Box<Difference>> {
     };
     say("limits".into(), runs::limits(seed))?;
     say("wide-limits".into(), runs::wide_limits(seed, 6))?;
-    for counts in runs::tiny_counts(runs::LONG_PATTERNS) {
+    for counts in runs::tiny_counts(&runs::LONG_PATTERNS) {
         say(format!("patterns {counts:?}"), runs::patterns(counts))?;
     }
     for sizes in runs::tiny_sizes(&runs::LONG_CONTENTS) {
@@ -90,6 +91,10 @@ fn all(seed: u64, count: u64) -> Result<Families, Box<Difference>> {
         }
     }
     for (from, to) in spans(count / 4) {
+        say(
+            format!("renumbered {from}..{to}"),
+            runs::renumbered(seed, from, to),
+        )?;
         say(
             format!("damaged {from}..{to}"),
             runs::damaged(seed, from, to),

@@ -31,6 +31,7 @@ pub(super) fn write(recording: &mut Recording) {
         let masks = random::masks(&mut rng, &words, 4);
         recording.graph(&words, &usual(&words, &masks));
     }
+    renumbered(recording, &mut rng);
     samples(recording, &mut rng);
 }
 
@@ -161,9 +162,22 @@ fn absorbed(recording: &mut Recording, rng: &mut Rng) {
     }
 }
 
+/// Random graphs under three numberings of their links each, with the same masks.
+fn renumbered(recording: &mut Recording, rng: &mut Rng) {
+    for i in 0..60 {
+        let scale = if i % 10 == 9 { 3 } else { i % 3 };
+        let words: Vec<u16> = random::graph(rng, SCALES[scale]);
+        let masks = random::masks(rng, &words, 3);
+        let others = [random::turned(&words), random::renumbered(rng, &words)];
+        for words in [words].iter().chain(&others) {
+            recording.graph(words, &usual(words, &masks));
+        }
+    }
+}
+
 /// Random graphs of each scale with masks, and damaged copies.
 fn samples(recording: &mut Recording, rng: &mut Rng) {
-    for (scale, graphs) in [(0, 250), (1, 300), (2, 250), (3, 50), (4, 12), (5, 12)] {
+    for (scale, graphs) in [(0, 250), (1, 300), (2, 250), (3, 40), (4, 9), (5, 8)] {
         for _ in 0..graphs {
             let words: Vec<u16> = random::graph(rng, SCALES[scale]);
             let masks = random::masks(rng, &words, 5);

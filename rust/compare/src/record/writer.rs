@@ -4,6 +4,8 @@
 use oracle::{Ended, Oracle};
 use paper::Refusal;
 
+use crate::ours::NUMBERS;
+
 /// A call on a graph, with the lengths of what it is lent.
 #[derive(Clone, Debug)]
 pub enum Call {
@@ -33,7 +35,7 @@ pub struct Recording {
     /// Check, needed, prepare, complete.
     pub calls: [usize; 4],
     /// Calls by number, 0 for those not turned away.
-    pub numbers: [usize; 13],
+    pub numbers: [usize; NUMBERS],
 }
 
 const MAGIC: [u8; 2] = *b"FS";
