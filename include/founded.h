@@ -9,8 +9,8 @@
  * Nothing is remembered between calls, and so threads may call at once, each with its own output and work area.
  *
  * A graph is words: edition (1 in 16-bit words, 2 in 32-bit words), A atoms, N nodes, P producers, K links; N nodes of kind, operand, first link; P producers of
- * body + 1 (0 marks a fact), first link; K links of value, next. Atoms, nodes and producers are numbered from 0, links from 1; link 0 ends a chain. docs/FORMAT.md
- * has the layout, the rules and graphs worked by hand. (The program founded_support takes the atom mask before the node mask; founded_complete takes the node mask first.)
+ * body + 1 (0 marks a fact), first link; K links of value, next, in any order. Atoms, nodes and producers are numbered from 0, links from 1; link 0 ends a chain.
+ * docs/FORMAT.md has the layout, the rules and graphs worked by hand. (The program founded_support takes the atom mask before the node mask; founded_complete takes the node mask first.)
  *
  * Lengths that pass: graph 5 + 3N + 2P + 2K words; never (the node mask) FOUNDED_MASK_WORDS(N); atom_never (the atom mask) and output FOUNDED_MASK_WORDS(A);
  * work FOUNDED_WORK_WORDS in edition 1, and in edition 2 what founded_wide_work_words gives for the graph. Every other length is an answer: 1 or 3 of the graph,
@@ -19,12 +19,13 @@
  * where they are written.
  *
  * A refusal's code is number * 2^16 + place in 32 bits, and of a wide call number * 2^32 + place in 64 bits: FOUNDED_NUMBER and FOUNDED_PLACE take the one apart,
- * FOUNDED_WIDE_NUMBER and FOUNDED_WIDE_PLACE the other. Of several refusals that apply the first in the table's order is given. What a call leaves:
+ * FOUNDED_WIDE_NUMBER and FOUNDED_WIDE_PLACE the other. Of several refusals that apply the first in the table's order is given: that of the numbers, but 14 stands
+ * between 6 and 7. What a call leaves:
  *
- *   outcome     output                  work area
- *   success     the list, each word     all zero
- *   1 to 11     as it was               as it was
- *   12          as it was               all zero
+ *   outcome         output                  work area
+ *   success         the list, each word     all zero
+ *   1 to 11, 14     as it was               as it was
+ *   12              as it was               all zero
  *
  * What output and work area held before has no effect. Graph and masks are never written.
  */
@@ -63,22 +64,31 @@ enum founded_refusal {
     FOUNDED_NODE = 4,      /* kind above 7; operand of an Atom not below A; operand of another kind not 0; first link above K; first link not 0 outside And
                               and Or. Place: the first such node */
     FOUNDED_PRODUCER = 5,  /* body + 1 above N, or first link above K. Place: the first such producer */
-    FOUNDED_LINK = 6,      /* next is above K, or is neither 0 nor greater than the link's own number. Place: the first such link */
+    FOUNDED_LINK = 6,      /* next is above K. Place: the first such link */
     FOUNDED_LEAF = 7,      /* a leaf not below its own node's number. Place: the first such node */
     FOUNDED_HEAD = 8,      /* a head not below A. Place: the first such producer */
     FOUNDED_ENTRIES = 9,   /* more than 4,096 leaf entries or more than 4,096 head entries; in edition 2 more than 1,048,576 */
     FOUNDED_LENGTHS = 10,  /* the node mask isn't FOUNDED_MASK_WORDS(N) words long, or the atom mask or the output isn't FOUNDED_MASK_WORDS(A) */
     FOUNDED_WORK = 11,     /* the work area is not exactly 32,768 16-bit words; in edition 2 not exactly 16(A + N + P + 1) + 4(leaf entries + head entries)
                               32-bit words */
-    FOUNDED_ABSORBED = 12  /* the body cone holds a node of kind 7. Place: one such node */
+    FOUNDED_ABSORBED = 12, /* the body cone holds a node of kind 7. Place: one such node */
+    FOUNDED_COMES_BACK = 14 /* a chain comes back to one of its own links; given after 6 and before 7. Place: the first node whose leaf chain does, or where none does,
+                              the first producer whose head chain does. The code does not say which: it is a node if that node's chain has not ended after K links */
 };
 
 #ifdef __cplusplus
 extern "C" {
 #endif
 
-/* The graph check: 0, or the code of a refusal of 1 to 9. All other calls begin with it. It walks each chain by itself: where many share a long tail it may take up to
- * (N + P)K steps before it gives 9, in edition 2 many minutes. On a graph that it accepts the time goes by the graph's length and its entries. */
+/* The graph check: 0, or the code of a refusal of 1 to 9 or 14. All other calls begin with it.
+ *
+ * How long it takes: it looks at N + P + K records, and then walks at most 2(N + P)K links, half of them for 14 (where every next is 0 or greater than its own link, it
+ * skips that half). On a graph that it accepts it walks each entry at most twice. The most is walked where all chains share one long tail, before 9 is given. In edition 1
+ * that is a few hundredths of a second. In edition 2 it is 1.1 million million links: by the time that a part of them took, half an hour where the links lie in order,
+ * and more than a day where they lie at random. A caller who takes wide graphs from outside can look for such a graph first, in time N + P + K and with memory for a number a
+ * link: after the tests of 1 to 6, walk from each link until a link is met whose length is known, and give all links on the way their lengths; a walk that meets itself has
+ * come back. Then add up the lengths of the chains of all nodes, and of all producers, leaving out those that come back. If neither sum is above
+ * FOUNDED_WIDE_MOST_ENTRIES, the check walks at most twice both and K links more; if one is, the graph is refused anyhow. */
 uint32_t founded_check(const uint16_t *graph, size_t graph_len);
 uint64_t founded_wide_check(const uint32_t *graph, size_t graph_len);
 
@@ -86,15 +96,16 @@ uint64_t founded_wide_check(const uint32_t *graph, size_t graph_len);
  * refused. It walks all chains: count its time like that of a graph check, and ask once for a graph that is used again. */
 uint64_t founded_wide_work_words(const uint32_t *graph, size_t graph_len);
 
-/* The loop test: 1 if there is a closed walk over all atoms and all nodes, 0 if there is none, or the code of a refusal of 1 to 9 or 11. */
+/* The loop test: 1 if there is a closed walk over all atoms and all nodes, 0 if there is none, or the code of a refusal of 1 to 9, 14 or 11. */
 uint32_t founded_needed(const uint16_t *graph, size_t graph_len, uint16_t *work, size_t work_len);
 uint64_t founded_wide_needed(const uint32_t *graph, size_t graph_len, uint32_t *work, size_t work_len);
 
-/* Preparation: 0, and the output lists the cyclic atoms; or the code of a refusal of 1 to 12. */
+/* Preparation: 0, and the output lists the cyclic atoms; or the code of a refusal of 1 to 12 or 14. */
 uint32_t founded_prepare(const uint16_t *graph, size_t graph_len, uint64_t *output, size_t output_len, uint16_t *work, size_t work_len);
 uint64_t founded_wide_prepare(const uint32_t *graph, size_t graph_len, uint64_t *output, size_t output_len, uint32_t *work, size_t work_len);
 
-/* The pass: 0, and the output lists the missing atoms: all that lie in some unfounded set, whatever the masks cut; or the code of a refusal of 1 to 12. */
+/* The pass: 0, and the output lists the missing atoms: all that lie in some unfounded set, whatever the masks cut; or the code of a refusal of 1 to 12 or
+ * 14. */
 uint32_t founded_complete(const uint16_t *graph, size_t graph_len, const uint64_t *never, size_t never_len, const uint64_t *atom_never,
                           size_t atom_never_len, uint64_t *output, size_t output_len, uint16_t *work, size_t work_len);
 uint64_t founded_wide_complete(const uint32_t *graph, size_t graph_len, const uint64_t *never, size_t never_len, const uint64_t *atom_never,

@@ -1,6 +1,6 @@
 //! The calls over plain slices, once for both widths. Rust's borrow rules keep the buffers apart, as the calls need.
 
-use crate::{Refusal, Word};
+use crate::{Refusal, Word, chains};
 
 /// The length of the work area in edition 1, in 16-bit words. In edition 2 it depends on the graph: [`wide::work_words`].
 pub const WORK_WORDS: usize = 32_768;
@@ -12,25 +12,30 @@ pub const fn mask_words(count: usize) -> usize {
 }
 
 /// A code's place is in as many low bits as a word has, its number above them.
-fn refusal<W: Word>(code: u64) -> Refusal {
+fn refusal<W: Word>(graph: &[W], code: u64) -> Refusal {
     let bits = 8 * size_of::<W>();
-    let (number, place) = (code >> bits, code & ((1 << bits) - 1));
-    u16::try_from(number)
-        .ok()
-        .and_then(|number| Refusal::of(number, place as u32))
-        .expect("the proved calls answer by no other code")
+    let (number, place) = (code >> bits, (code & ((1 << bits) - 1)) as u32);
+    match number {
+        14 => Some(Refusal::ComesBack(chains::whose(graph, place))),
+        _ => u16::try_from(number)
+            .ok()
+            .and_then(|number| Refusal::of(number, place)),
+    }
+    .expect("the proved calls answer by no other code")
 }
 
-fn answer<W: Word>(code: W::Code) -> Result<(), Refusal> {
+fn answer<W: Word>(graph: &[W], code: W::Code) -> Result<(), Refusal> {
     match code.into() {
         0 => Ok(()),
-        code => Err(refusal::<W>(code)),
+        code => Err(refusal(graph, code)),
     }
 }
 
 pub fn check<W: Word>(graph: &[W]) -> Result<(), Refusal> {
     // SAFETY: a slice is as many valid, aligned words at a pointer that is not null, and is shared for the call.
-    answer::<W>(unsafe { (W::CALLS.check)(graph.as_ptr(), graph.len()) })
+    answer(graph, unsafe {
+        (W::CALLS.check)(graph.as_ptr(), graph.len())
+    })
 }
 
 pub fn needed<W: Word>(graph: &[W], work: &mut [W]) -> Result<bool, Refusal> {
@@ -40,13 +45,13 @@ pub fn needed<W: Word>(graph: &[W], work: &mut [W]) -> Result<bool, Refusal> {
     match code.into() {
         0 => Ok(false),
         1 => Ok(true),
-        code => Err(refusal::<W>(code)),
+        code => Err(refusal(graph, code)),
     }
 }
 
 pub fn prepare<W: Word>(graph: &[W], output: &mut [u64], work: &mut [W]) -> Result<(), Refusal> {
     // SAFETY: as in `needed`, for `output` too.
-    answer::<W>(unsafe {
+    answer(graph, unsafe {
         (W::CALLS.prepare)(
             graph.as_ptr(),
             graph.len(),
@@ -66,7 +71,7 @@ pub fn complete<W: Word>(
     work: &mut [W],
 ) -> Result<(), Refusal> {
     // SAFETY: as in `prepare`.
-    answer::<W>(unsafe {
+    answer(graph, unsafe {
         (W::CALLS.complete)(
             graph.as_ptr(),
             graph.len(),
@@ -90,7 +95,7 @@ macro_rules! named {
         /// The graph check.
         ///
         /// # Errors
-        /// The first of 1 to 9 that applies.
+        /// The first of 1 to 9 and 14 that applies.
         pub fn check(graph: &[$word]) -> Result<(), Refusal> {
             calls::check(graph)
         }
@@ -98,16 +103,16 @@ macro_rules! named {
         /// The loop test: whether there is a closed walk over all atoms and all nodes. Success leaves the work area all zero, a refusal leaves it as it was.
         ///
         /// # Errors
-        /// The first of 1 to 9 and 11 that applies.
+        /// The first of 1 to 9, 14 and 11 that applies.
         pub fn needed(graph: &[$word], work: &mut [$word]) -> Result<bool, Refusal> {
             calls::needed(graph, work)
         }
 
-        /// Preparation: the output lists the cyclic atoms (document 01: the marked states). Success and 12 leave the work area all zero; refusals 1 to 11
-        /// leave it, and every refusal leaves the output, as it was.
+        /// Preparation: the output lists the cyclic atoms (document 01: the marked states). Success and 12 leave the work area all zero; every other refusal
+        /// leaves it, and every refusal leaves the output, as it was.
         ///
         /// # Errors
-        /// The first of 1 to 12 that applies.
+        /// The first of 1 to 12 and 14 that applies.
         pub fn prepare(
             graph: &[$word],
             output: &mut [u64],
@@ -120,7 +125,7 @@ macro_rules! named {
         /// leaves output and work area as [`prepare`] does.
         ///
         /// # Errors
-        /// The first of 1 to 12 that applies.
+        /// The first of 1 to 12 and 14 that applies.
         pub fn complete(
             graph: &[$word],
             never: &[u64],
@@ -140,8 +145,9 @@ pub mod narrow {
 
 /// The calls on graphs of edition 2, in 32-bit words.
 ///
-/// Each begins with the graph check, which walks each chain by itself: where many share a long tail it may take up to (N + P)·K steps before it gives 9, many minutes. On a graph
-/// that it accepts the time goes by the graph's length and its entries.
+/// Each begins with the graph check. It is lent no memory, and so it walks each chain by itself: where many share a long tail it may walk up to 2·(N + P)·K links before it
+/// refuses the graph, for hours. On a graph that it accepts the time goes by the graph's length and its entries.
+/// [`WideGraph::from_words`](crate::WideGraph::from_words) looks for such graphs first and is never long: take it for a graph that you did not make yourself.
 pub mod wide {
     named!(u32);
 

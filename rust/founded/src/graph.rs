@@ -1,4 +1,4 @@
-use crate::{AtomId, Node, NodeId, Producer, ProducerId, Refusal, Word, calls};
+use crate::{AtomId, Node, NodeId, Producer, ProducerId, Refusal, Word, calls, chains};
 
 /// The words of a graph that the proved check has accepted: [`Graph`] or [`WideGraph`].
 #[derive(Clone, Debug, PartialEq, Eq)]
@@ -16,16 +16,23 @@ pub type WideGraph = GraphOf<u32>;
 impl<W: Word> GraphOf<W> {
     /// Words as docs/FORMAT.md lays them out.
     ///
+    /// The time goes by the length of the words, whatever they hold. The proved check alone does not promise that: it walks each chain by itself, and where many share a long
+    /// tail it may walk up to 2·(N + P)·K links before it refuses the graph, in edition 2 for hours. So the entries are counted first, in memory of this crate's own.
+    /// A graph that has no more of them than refusal 9 lets pass goes to the proved check, and the answer is the proved one; so every graph that is accepted has passed it.
+    /// **Where the chains that end have more entries than that, the refusal is this crate's own and not a proved one**: the same rows in plain Rust, which tests hold to the
+    /// proved check. [`check`](crate::check) and [`wide::check`](crate::wide::check) give the proved answer on any words.
+    ///
     /// # Errors
-    /// The first of refusals 1 to 9 that applies.
+    /// The first of refusals 1 to 9 and 14 that applies.
     pub fn from_words(words: Vec<W>) -> Result<Self, Refusal> {
+        let entries = chains::entries(&words)?;
         calls::check(&words)?;
         let mut graph = Self {
             words,
             work_words: 0,
         };
         let size = graph.atoms() + graph.nodes() + graph.producers();
-        graph.work_words = W::area(size, || graph.entries());
+        graph.work_words = W::area(size, entries);
         Ok(graph)
     }
 
@@ -66,14 +73,6 @@ impl<W: Word> GraphOf<W> {
     #[must_use]
     pub fn producers(&self) -> usize {
         self.word(3) as usize
-    }
-
-    /// How many leaf entries and head entries there are: what the chains of all nodes and producers have together.
-    fn entries(&self) -> usize {
-        let leaves = (0..self.nodes()).map(|n| 5 + 3 * n + 2);
-        let heads = (0..self.producers()).map(|p| 5 + 3 * self.nodes() + 2 * p + 1);
-        let firsts = leaves.chain(heads).map(|at| self.word(at));
-        firsts.map(|first| self.chain(first).count()).sum()
     }
 
     /// The values along the chain that begins at a link.

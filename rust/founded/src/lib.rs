@@ -70,13 +70,14 @@
 //!
 //! # What there is
 //!
-//! - [`Theory`] builds a graph, [`Graph`] or [`WideGraph`] holds the words of one that the proved check has accepted. [`Graph::widen`] goes from edition 1 to edition 2.
+//! - [`Theory`] builds a graph, [`Graph`] or [`WideGraph`] holds the words of one that the proved check has accepted. [`GraphOf::from_words`] takes words from outside. [`Graph::widen`] goes from edition 1 to edition 2.
 //! - [`Solver`] owns the work area and the output and runs the loop test, the preparation and the pass.
 //! - [`check`], [`needed`], [`prepare`] and [`complete`], here and in [`wide`], are the four calls over plain slices, for callers that keep their own memory.
 //! - [`raw`] has them as the archive does.
 //! - A call is turned away by a [`Refusal`], with the number and place of docs/FORMAT.md's table.
 
 mod calls;
+mod chains;
 mod error;
 mod graph;
 mod mask;
@@ -91,7 +92,7 @@ pub use calls::{WORK_WORDS, mask_words, wide};
 pub use error::Error;
 pub use graph::{Graph, GraphOf, WideGraph};
 pub use mask::{AtomMask, Atoms, Cut, Mask, NodeMask};
-pub use refusal::Refusal;
+pub use refusal::{Chain, Refusal};
 pub use solver::Solver;
 pub use theory::{AtomId, Node, NodeId, Producer, ProducerId, Theory};
 pub use word::Word;

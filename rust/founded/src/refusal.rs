@@ -3,8 +3,8 @@ use std::fmt;
 
 use crate::{NodeId, ProducerId};
 
-/// A call turned away: one case for each number of the table "Refusals" in docs/FORMAT.md. Of several that apply a call gives the first
-/// in the table's order. In refusals 1, 2, 9 and 11 each edition has its own numbers.
+/// A call turned away: one case for each number of the table "Refusals" in docs/FORMAT.md. Of several that apply a call gives the
+/// first in the table's order, in which 14 stands between 6 and 7. In refusals 1, 2, 9 and 11 each edition has its own numbers.
 #[derive(Clone, Copy, Debug, PartialEq, Eq, Hash)]
 #[non_exhaustive]
 pub enum Refusal {
@@ -18,7 +18,7 @@ pub enum Refusal {
     Node(NodeId),
     /// 5: body + 1 above N, or first link above K. The first such producer.
     Producer(ProducerId),
-    /// 6: next is above K, or is neither 0 nor greater than the link's own number. The first such link, numbered from 1.
+    /// 6: next is above K. The first such link, numbered from 1.
     Link(u32),
     /// 7: a leaf not below its own node's number. The first such node.
     Leaf(NodeId),
@@ -32,10 +32,21 @@ pub enum Refusal {
     Work,
     /// 12: the body cone holds an absorbed node. One such node.
     Absorbed(NodeId),
+    /// 14: a chain comes back to one of its own links. The first node whose leaf chain does, or where none does, the first producer whose head chain does. A call's code
+    /// does not say which of the two; a walk along the node's chain does.
+    ComesBack(Chain),
+}
+
+/// Whose chain it is.
+#[derive(Clone, Copy, Debug, PartialEq, Eq, Hash)]
+pub enum Chain {
+    Node(NodeId),
+    Producer(ProducerId),
 }
 
 impl Refusal {
-    /// The refusal of this number and place; the place counts only where the number has one. None for a number that no refusal has.
+    /// The refusal of this number and place; the place counts only where the number has one. None for a number that no refusal has, and for 14, whose place may be a
+    /// node's or a producer's.
     #[must_use]
     pub fn of(number: u16, place: u32) -> Option<Self> {
         Some(match number {
@@ -55,7 +66,7 @@ impl Refusal {
         })
     }
 
-    /// The number in the table, 1 to 12.
+    /// The number in the table.
     #[must_use]
     pub fn number(self) -> u16 {
         match self {
@@ -71,6 +82,7 @@ impl Refusal {
             Self::Lengths => 10,
             Self::Work => 11,
             Self::Absorbed(_) => 12,
+            Self::ComesBack(_) => 14,
         }
     }
 
@@ -78,8 +90,13 @@ impl Refusal {
     #[must_use]
     pub fn place(self) -> u32 {
         match self {
-            Self::Node(NodeId(n)) | Self::Leaf(NodeId(n)) | Self::Absorbed(NodeId(n)) => n,
-            Self::Producer(ProducerId(p)) | Self::Head(ProducerId(p)) => p,
+            Self::Node(NodeId(n))
+            | Self::Leaf(NodeId(n))
+            | Self::Absorbed(NodeId(n))
+            | Self::ComesBack(Chain::Node(NodeId(n))) => n,
+            Self::Producer(ProducerId(p))
+            | Self::Head(ProducerId(p))
+            | Self::ComesBack(Chain::Producer(ProducerId(p))) => p,
             Self::Link(l) => l,
             Self::Edition
             | Self::Counts
@@ -102,9 +119,7 @@ impl Refusal {
                 "kind above 7; operand of an Atom not below A; operand of another kind not 0; first link above K; first link not 0 outside And and Or"
             }
             Self::Producer(_) => "body + 1 above N, or first link above K",
-            Self::Link(_) => {
-                "next is above K, or is neither 0 nor greater than the link's own number"
-            }
+            Self::Link(_) => "next is above K",
             Self::Leaf(_) => "a leaf not below its own node's number",
             Self::Head(_) => "a head not below A",
             Self::Entries => {
@@ -117,6 +132,12 @@ impl Refusal {
                 "not exactly 32,768 16-bit words (edition 2: 16·(A + N + P + 1) + 4·(leaf entries + head entries) 32-bit words)"
             }
             Self::Absorbed(_) => "the body cone holds a node of kind 7",
+            Self::ComesBack(Chain::Node(_)) => {
+                "the leaf chain of this node comes back to one of its own links"
+            }
+            Self::ComesBack(Chain::Producer(_)) => {
+                "the head chain of this producer comes back to one of its own links"
+            }
         }
     }
 }

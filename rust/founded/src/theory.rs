@@ -221,7 +221,7 @@ impl Node {
     }
 }
 
-/// Links as they are made, each after the one that it leads to. A graph numbers them the other way, since a link leads to greater numbers.
+/// Links as they are made, each after the one that it leads to. A graph numbers them the other way, so that a link leads to greater numbers: such graphs are checked fastest.
 #[derive(Default)]
 struct Chains {
     links: Vec<(u32, u32)>,

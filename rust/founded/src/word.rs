@@ -48,7 +48,7 @@ pub(crate) mod sealed {
         const CALLS: Calls<Self>;
 
         /// The length of the work area that 11 asks for, by how many atoms, nodes and producers there are together, and leaf and head entries together.
-        fn area(size: usize, entries: impl FnOnce() -> usize) -> usize;
+        fn area(size: usize, entries: usize) -> usize;
     }
 
     pub struct Calls<W: Archive> {
@@ -80,7 +80,7 @@ pub(crate) mod sealed {
             complete: raw::founded_complete,
         };
 
-        fn area(_: usize, _: impl FnOnce() -> usize) -> usize {
+        fn area(_: usize, _: usize) -> usize {
             WORK_WORDS
         }
     }
@@ -95,8 +95,8 @@ pub(crate) mod sealed {
             complete: raw::founded_wide_complete,
         };
 
-        fn area(size: usize, entries: impl FnOnce() -> usize) -> usize {
-            16 * (size + 1) + 4 * entries()
+        fn area(size: usize, entries: usize) -> usize {
+            16 * (size + 1) + 4 * entries
         }
     }
 }

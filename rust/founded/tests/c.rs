@@ -51,6 +51,7 @@ heater cut 0 2
 no mask: 10 0
 short work area: 11 0
 absorbed: 12 1
+comes back: 14 1
 ";
     assert_eq!(printed("heater"), said);
 }
@@ -71,6 +72,8 @@ absorbed: 12 1
 ring: 0 0
 missing 100000 with 5200016 words
 ring: 6 100000
+missing 0 with 0 words
+ring: 14 99999
 missing 0 with 0 words
 ";
     assert_eq!(printed("wide"), said);

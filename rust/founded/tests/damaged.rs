@@ -89,7 +89,7 @@ fn left<W: Width>(
     let mut output = Lent::new(lengths.output, fill);
     let mut work = Lent::new(lengths.work, word);
     let answer = call(output.part(), work.part());
-    let untouched = answer.is_err_and(|refusal| refusal.number() < 12);
+    let untouched = answer.is_err_and(|refusal| refusal.number() != 12);
     assert!(work.is_all(word, if untouched { word } else { W::low(0) }));
     assert_eq!(
         output.is_all(fill, fill),
@@ -140,7 +140,7 @@ fn run<W: Width>(rng: &mut Rng, graph: &[W]) -> u16 {
     assert_eq!(made.map(|made| made.work_words()), checked.map(|()| area));
     assert_eq!(W::work_words(graph), checked.ok().map(|()| area));
     if let Err(refusal) = checked {
-        assert!(refusal.number() <= 9);
+        assert!(matches!(refusal.number(), 1..=9 | 14));
         let answers = [needed.err(), cyclic.err(), missing.clone().err()];
         assert_eq!(answers, [Some(refusal); 3]);
         return refusal.number();
@@ -171,7 +171,7 @@ fn run<W: Width>(rng: &mut Rng, graph: &[W]) -> u16 {
 
 /// Random words. One in `rare` is crowded, which takes its time where a graph may have many entries.
 fn nothing_panics<W: Width>(build: Build<W>, rare: u64) {
-    let mut numbers = [0; 13];
+    let mut numbers = [0; 15];
     for seed in 0..8_000 {
         let mut rng = Rng::new(seed);
         let words = match seed % 16 {
@@ -181,7 +181,8 @@ fn nothing_panics<W: Width>(build: Build<W>, rare: u64) {
         };
         numbers[usize::from(run(&mut rng, &words))] += 1;
     }
-    assert!(numbers.iter().all(|&count| count > 10), "{numbers:?}");
+    let given = |number: usize| number == 13 || numbers[number] > 10;
+    assert!((0..15).all(given), "{numbers:?}");
 }
 
 #[test]

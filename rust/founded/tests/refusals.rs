@@ -3,7 +3,7 @@
 mod common;
 
 use common::{Width, graph, work_words};
-use founded::{AtomMask, Error, GraphOf, NodeId, NodeMask, Refusal, Solver};
+use founded::{AtomMask, Chain, Error, GraphOf, NodeId, NodeMask, ProducerId, Refusal, Solver};
 
 /// Number and place of the graph check; (0, 0) if it accepts.
 fn checked<W: Width>(words: &[W]) -> (u16, u32) {
@@ -65,12 +65,87 @@ fn three_to_eight<W: Width>() {
     }
     assert_eq!(small::<W>(ATOM_AND, [3, 2], LINKS), (5, 0));
     assert_eq!(small::<W>(ATOM_AND, [2, 3], LINKS), (5, 0));
-    // a next equal to its own link
-    assert_eq!(small::<W>(ATOM_AND, HEAD, [0, 1, 0, 0]), (6, 1));
     assert_eq!(small::<W>(ATOM_AND, HEAD, [0, 2, 0, 3]), (6, 2));
+    // a next equal to its own link: the And's, the producer's, nobody's
+    assert_eq!(small::<W>(ATOM_AND, HEAD, [0, 1, 0, 0]), (14, 1));
+    assert_eq!(small::<W>([1, 0, 0, 2, 0, 1], HEAD, [0, 0, 0, 2]), (14, 0));
+    assert_eq!(small::<W>(ATOM_AND, [2, 1], [0, 0, 9, 2]), (0, 0));
+    // a next below its own link, and a circle of both
+    assert_eq!(small::<W>([1, 0, 0, 2, 0, 2], HEAD, [0, 0, 0, 1]), (0, 0));
+    assert_eq!(small::<W>(ATOM_AND, HEAD, [0, 2, 0, 1]), (14, 1));
     // a leaf one below its node passes, an equal one does not
     assert_eq!(small::<W>(ATOM_AND, [2, 0], [1, 0, 0, 0]), (7, 1));
     assert_eq!(small::<W>([1, 0, 0, 0, 0, 0], [2, 1], [0, 2, 1, 0]), (8, 0));
+}
+
+/// 14 says whose chain comes back, also where a node and a producer of the same number could be meant; every call says the same.
+fn whose_chain<W: Width>() {
+    let all = |records: &[usize], chain: Chain| {
+        let words = graph::<W>(&[&[1, 2, 2, 3][..], records, &[0, 0, 0, 3, 0, 2]].concat());
+        let said = Some(Refusal::ComesBack(chain));
+        assert_eq!(GraphOf::from_words(words.clone()).err(), said);
+        assert_eq!(W::check(&words).err(), said);
+        assert_eq!(W::work_words(&words), None);
+        let (mut output, mut work) = ([5], [W::low(6); 9]);
+        assert_eq!(W::needed(&words, &mut work).err(), said);
+        assert_eq!(W::prepare(&words, &mut output, &mut work).err(), said);
+        let answer = W::complete(&words, &[0], &[0], &mut output, &mut work);
+        assert_eq!((answer.err(), output, work), (said, [5], [W::low(6); 9]));
+    };
+    // links 2 and 3 are a circle, link 1 is not in it
+    let (node, producer) = (Chain::Node(NodeId(1)), Chain::Producer(ProducerId(1)));
+    all(&[0, 0, 0, 2, 0, 2, 0, 0, 0, 0], node);
+    all(&[0, 0, 0, 3, 0, 3, 0, 2, 0, 2], node);
+    all(&[0, 0, 0, 2, 0, 1, 0, 0, 0, 3], producer);
+    all(&[0, 0, 0, 0, 0, 0, 0, 1, 0, 2], producer);
+    let said = "refused 14 1: the head chain of this producer comes back to one of its own links";
+    assert_eq!(Refusal::ComesBack(producer).to_string(), said);
+}
+
+/// The most links that a check can walk: every node but the first and every producer has all links, from the last down to the first. It is refused in a moment.
+fn longest_walks<W: Width>() {
+    let (most, links) = (W::LIMIT, W::ENTRIES);
+    let mut words = vec![1, most, most, links, 0, 0, 0];
+    words.extend([2, 0, links].repeat(most - 1));
+    words.extend([0, links].repeat(most));
+    words.extend((0..links).flat_map(|next| [0, next]));
+    let refusal = |words: &[usize]| {
+        let words = graph::<W>(words);
+        let proved = (W::NUMBER == 1).then(|| W::check(&words).err());
+        let refusal = GraphOf::from_words(words).err();
+        // the proved check takes too long in edition 2
+        assert!(proved.is_none_or(|proved| proved == refusal));
+        refusal
+    };
+    assert_eq!(refusal(&words), Some(Refusal::Entries));
+    let last_node = 4 + 3 * (most - 1);
+    let first_link = words.len() - 2 * links;
+    let mut other = words.clone();
+    other[first_link] = 1;
+    assert_eq!(refusal(&other), Some(Refusal::Leaf(NodeId(1))));
+    other[4 + 3..last_node + 3].fill(0);
+    assert_eq!(refusal(&other), Some(Refusal::Head(ProducerId(0))));
+    other[last_node] = 8;
+    let last = NodeId(most as u32 - 1);
+    assert_eq!(refusal(&other), Some(Refusal::Node(last)));
+    // the last node and the first producer have another chain, that comes back
+    words[last_node + 2] = 1;
+    words[first_link + 1] = 1;
+    words[first_link + 3] = 0;
+    let node = Refusal::ComesBack(Chain::Node(last));
+    assert_eq!(refusal(&words), Some(node));
+    words[last_node + 2] = 0;
+    words[last_node + 4] = 1;
+    let producer = Refusal::ComesBack(Chain::Producer(ProducerId(0)));
+    assert_eq!(refusal(&words), Some(producer));
+    words[first_link + 1] = links + 1;
+    assert_eq!(refusal(&words), Some(Refusal::Link(1)));
+}
+
+#[test]
+fn of_the_longest_walks() {
+    longest_walks::<u16>();
+    longest_walks::<u32>();
 }
 
 /// The greatest places.
@@ -136,6 +211,7 @@ fn entries<W: Width>() {
 fn of_the_graph_in_edition_1() {
     one_to_three::<u16>();
     three_to_eight::<u16>();
+    whose_chain::<u16>();
     far_places::<u16>();
     entries::<u16>();
 }
@@ -144,6 +220,7 @@ fn of_the_graph_in_edition_1() {
 fn of_the_graph_in_edition_2() {
     one_to_three::<u32>();
     three_to_eight::<u32>();
+    whose_chain::<u32>();
     far_places::<u32>();
     entries::<u32>();
     assert_eq!(founded::wide::work_words(&[2, 0, 0, 0, 0]), Some(16));
@@ -174,7 +251,7 @@ fn both<W: Width>(
         } else {
             W::prepare(graph.words(), &mut out, &mut area)
         };
-        let untouched = answer.is_err_and(|refusal| refusal.number() < 12);
+        let untouched = answer.is_err_and(|refusal| refusal.number() != 12);
         let left = W::low(if untouched { 6 } else { 0 });
         assert!(area.iter().all(|&word| word == left));
         assert!(answer.is_ok() || out.iter().all(|&word| word == 5));
@@ -279,8 +356,14 @@ fn every_number_is_a_case() {
     for number in [4, 5, 6, 7, 8, 12] {
         assert_eq!(Refusal::of(number, 70_000).unwrap().place(), 70_000);
     }
-    assert_eq!(Refusal::of(0, 0), None);
-    assert_eq!(Refusal::of(13, 0), None);
+    for number in [0, 13, 14, 15] {
+        assert_eq!(Refusal::of(number, 0), None);
+    }
+    let chains = [Chain::Node(NodeId(9)), Chain::Producer(ProducerId(9))];
+    for refusal in chains.map(Refusal::ComesBack) {
+        assert_eq!((refusal.number(), refusal.place()), (14, 9));
+        assert!(refusal.to_string().starts_with("refused 14 9: the "));
+    }
     let said = "refused 12 1: the body cone holds a node of kind 7";
     assert_eq!(Refusal::Absorbed(NodeId(1)).to_string(), said);
 }

@@ -7,6 +7,7 @@
 static const uint16_t c2[] = {1, 2, 2, 2, 2, 1, 0, 0, 1, 1, 0, 2, 1, 1, 2, 0, 0, 1, 0};
 static const uint16_t c3[] = {1, 2, 2, 3, 2, 1, 0, 0, 1, 1, 0, 2, 1, 1, 2, 0, 1, 0, 0, 1, 0};
 static const uint16_t absorbed[] = {1, 1, 2, 1, 1, 0, 0, 0, 7, 0, 0, 2, 1, 0, 0};
+static const uint16_t circle[] = {1, 1, 2, 2, 2, 0, 0, 0, 3, 0, 0, 0, 0, 0, 2, 0, 2, 0, 1};
 static uint16_t work[FOUNDED_WORK_WORDS];
 
 #define LEN(words) (sizeof(words) / sizeof(words)[0])
@@ -36,5 +37,7 @@ int main(void) {
     say("short work area", founded_needed(c2, LEN(c2), work, FOUNDED_WORK_WORDS - 1));
     code = founded_prepare(absorbed, LEN(absorbed), output, LEN(output), work, FOUNDED_WORK_WORDS);
     say(FOUNDED_NUMBER(code) == FOUNDED_ABSORBED ? "absorbed" : "not absorbed", code);
+    code = founded_check(circle, LEN(circle));
+    say(FOUNDED_NUMBER(code) == FOUNDED_COMES_BACK ? "comes back" : "does not come back", code);
     return 0;
 }

@@ -93,5 +93,6 @@ int main(void) {
     small();
     ring(100000, 0);
     ring(100000, 100001);
+    ring(100000, 100000);
     return FOUNDED_WIDE_MOST < 100000 || FOUNDED_WIDE_MOST_ENTRIES < 100000;
 }
