@@ -8,6 +8,7 @@
 //! graph of an edition has as many atoms, nodes, producers, links, leaf entries
 //! and head entries as the edition allows.
 
+use compare::random;
 use compare::rng::Rng;
 
 use crate::word::Word;
@@ -54,6 +55,18 @@ pub fn input<W: Word>(size: usize, loops: bool, graphs: Option<usize>) -> Input<
         loops,
         graphs,
         parts,
+    }
+}
+
+/// The same content with the links of each graph in any order.
+pub fn any_order<W: Word + compare::calls::Word>(input: &Input<W>) -> Input<W> {
+    let mut rng = Rng::new(input.size as u64);
+    let graphs = input.graphs.iter();
+    Input {
+        graphs: graphs
+            .map(|words| random::renumbered(&mut rng, words))
+            .collect(),
+        ..*input
     }
 }
 

@@ -2,8 +2,9 @@
 //! times and ratios as tables.
 //!
 //! The parts are `narrow` (edition 1 against the Rust), `editions` (edition 2
-//! against edition 1 on the same content) and `scale` (edition 2 against the
-//! Rust, up to its largest graph); without `--part` all are run. With `--bars` it
+//! against edition 1 on the same content), `scale` (edition 2 against the
+//! Rust, up to its largest graph) and `order` (the check of both editions with
+//! links in any order against plain Rust); without `--part` all are run. With `--bars` it
 //! ends with 1 if a bar does not hold; with `--plot` it writes the picture of
 //! `narrow`, with `--plot-wide` that of `scale`; with `--graphs` there are so many
 //! graphs of each size of edition 1.
@@ -15,7 +16,7 @@ use bench::report::Bar;
 use bench::{caches, inputs, measure, plot, report};
 
 const USAGE: &str = "bench [--bars] [--plot FILE] [--plot-wide FILE] [--rounds COUNT] [--graphs COUNT] \
-                     [--part narrow|editions|scale]";
+                     [--part narrow|editions|scale|order]";
 
 struct Asked {
     bars: bool,
@@ -31,16 +32,18 @@ enum Part {
     Narrow,
     Editions,
     Scale,
+    Order,
 }
 
 impl Part {
-    const ALL: [Self; 3] = [Self::Narrow, Self::Editions, Self::Scale];
+    const ALL: [Self; 4] = [Self::Narrow, Self::Editions, Self::Scale, Self::Order];
 
     fn of(word: &str) -> Option<Self> {
         match word {
             "narrow" => Some(Self::Narrow),
             "editions" => Some(Self::Editions),
             "scale" => Some(Self::Scale),
+            "order" => Some(Self::Order),
             _ => None,
         }
     }
@@ -77,6 +80,16 @@ impl Part {
                 println!("{}", report::caches(&caches));
                 draw(&asked.plot_wide, &|| plot::wide(&measured, &caches))?;
                 Ok(report::scale_bars(&measured))
+            }
+            Self::Order => {
+                let wide = [&inputs::SIZES[..], &inputs::WIDE_SIZES[1..]].concat();
+                let editions = [
+                    (1, measure::any_order::<u16>(&inputs::SIZES, asked.rounds)),
+                    (2, measure::any_order::<u32>(&wide, asked.rounds)),
+                ];
+                println!("The check with links in any order, against plain Rust\n");
+                println!("{}", report::any_order(&editions));
+                Ok(report::any_order_bars(&editions))
             }
         }
     }

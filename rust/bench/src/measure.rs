@@ -6,6 +6,7 @@ use std::rc::Rc;
 use std::time::{Duration, Instant};
 
 use crate::inputs::{self, Input, WIDE_SIZES};
+use crate::plain;
 use crate::sides::{Before, Call, Ours, Theirs};
 use crate::word::Word;
 
@@ -17,7 +18,7 @@ pub struct Measured {
     /// The best round, in nanoseconds a call.
     pub ours: f64,
     /// What ours is held to: the Rust three times, once for each [`Before`] in
-    /// its order, or edition 1 alone.
+    /// its order, or edition 1 alone, or the plain check alone.
     pub others: Vec<Other>,
     /// Vertices and edges of a graph, on average.
     pub parts: f64,
@@ -35,6 +36,9 @@ pub const THEORY: usize = Before::Theory as usize;
 
 /// Where edition 2 is held to edition 1.
 pub const EDITION_1: usize = 0;
+
+/// Where the check is held to the plain one.
+pub const PLAIN: usize = 0;
 
 /// About how long each side is timed in a round: short, so that few rounds are
 /// disturbed, and at least one call.
@@ -77,6 +81,16 @@ fn theirs<W: Word>(input: &Input<W>, call: Call) -> [Side<'_>; 3] {
                 start.elapsed()
             })
         })
+    })
+}
+
+/// The check in plain Rust.
+fn plain_check<W: Word>(input: &Input<W>) -> Side<'_> {
+    Box::new(move |number| {
+        let graph = black_box(&input.graphs[number]);
+        let start = Instant::now();
+        black_box(plain::check(graph)).expect("accepted");
+        start.elapsed()
     })
 }
 
@@ -200,14 +214,31 @@ pub fn editions(graphs: Option<usize>, rounds: usize) -> Vec<Measured> {
 /// The least rounds of the largest graphs.
 const LEAST: usize = 10;
 
+/// Fewer rounds of graphs above 1,024 atoms.
+fn fewer(rounds: usize, size: usize) -> usize {
+    (rounds * WIDE_SIZES[0] / size).clamp(LEAST.min(rounds), rounds)
+}
+
+/// The check on graphs of these sizes with links in any order, held to the plain one.
+pub fn any_order<W: Word + compare::calls::Word>(sizes: &[usize], rounds: usize) -> Vec<Measured> {
+    let clock = clock();
+    let mut measured = Vec::new();
+    for &size in sizes {
+        let input = inputs::any_order(&inputs::input::<W>(size, false, None));
+        let bench = Bench::new(&input, Call::Check, [plain_check(&input)], clock);
+        measured.extend(run(vec![bench], fewer(rounds, size)));
+    }
+    measured
+}
+
 /// All calls of edition 2 on its own sizes, held to the Rust: one input after
 /// the other, since the largest take much memory, and fewer rounds of larger ones.
 pub fn scale(rounds: usize) -> Vec<Measured> {
     let mut measured = Vec::new();
     for size in WIDE_SIZES {
-        let fewer = (rounds * WIDE_SIZES[0] / size).max(LEAST.min(rounds));
         for loops in [false, true] {
-            measured.extend(all(&[inputs::input::<u32>(size, loops, None)], fewer));
+            let input = inputs::input::<u32>(size, loops, None);
+            measured.extend(all(&[input], fewer(rounds, size)));
         }
     }
     measured

@@ -1,5 +1,7 @@
-//! The graph check in plain Rust: document 01's rows 1 to 9, with the limits of
-//! either edition.
+//! The graph check in plain Rust: rows 1 to 9 and 14, with the limits of either
+//! edition. Its walks are those of the proved check: with no memory of its own it
+//! tells that a chain comes back by following it for more than K links, and
+//! where every next is 0 or above its own link it does not look.
 
 use crate::word::Word;
 
@@ -41,16 +43,28 @@ pub fn check<W: Word>(words: &[W]) -> Result<(), Refusal> {
             .iter()
             .position(|&[body, heads]| body > nodes || heads > links),
     )?;
-    let mut numbered = (1..).map(W::of).zip(of_links);
-    first(
-        6,
-        numbered
-            .find(|&(own, &[_, next])| next > links || (next.number() != 0 && next <= own))
-            .map(|(own, _)| own.number()),
-    )?;
     let leaves = of_nodes.iter().map(|record| record[2]);
-    let leaf_entries = entries(7, leaves.zip((0..).map(W::of)), of_links)?;
     let heads = of_producers.iter().map(|record| record[1]);
+    let upward =
+        |(own, &[_, next]): (W, &[W; 2])| next <= links && (next.number() == 0 || next > own);
+    let turn = (1..)
+        .map(W::of)
+        .zip(of_links)
+        .position(|link| !upward(link));
+    if let Some(turn) = turn {
+        let mut later = turn..of_links.len();
+        let above = later.find(|&link| of_links[link][1] > links);
+        first(6, above.map(|link| link + 1))?;
+        first(
+            14,
+            leaves.clone().position(|first| comes_back(first, of_links)),
+        )?;
+        first(
+            14,
+            heads.clone().position(|first| comes_back(first, of_links)),
+        )?;
+    }
+    let leaf_entries = entries(7, leaves.zip((0..).map(W::of)), of_links)?;
     let head_entries = entries(8, heads.zip(std::iter::repeat(atoms)), of_links)?;
     if leaf_entries > W::MOST_LINKS || head_entries > W::MOST_LINKS {
         return Err((9, 0));
@@ -70,6 +84,18 @@ fn bad_node<W: Word>([kind, operand, first]: [W; 3], atoms: W, links: W) -> bool
         0 | 4..=7 => !none(operand) || !none(first),
         _ => true,
     }
+}
+
+/// Whether a chain has not ended after K links.
+fn comes_back<W: Word>(first: W, links: &[[W; 2]]) -> bool {
+    let mut link = first;
+    for _ in 0..links.len() {
+        if link.number() == 0 {
+            return false;
+        }
+        link = links[link.number() - 1][1];
+    }
+    link.number() != 0
 }
 
 /// The entries of all chains; each value must be below its chain's bound.

@@ -4,7 +4,7 @@ use std::fmt::Write as _;
 
 use crate::caches::Cache;
 use crate::inputs::WIDE_WORDS;
-use crate::measure::{EDITION_1, Measured, THEORY};
+use crate::measure::{EDITION_1, Measured, PLAIN, THEORY};
 use crate::sides::{Before, Call};
 
 fn thousands(number: usize) -> String {
@@ -25,6 +25,20 @@ pub fn times(measured: &[Measured], other: usize) -> String {
         let micros = cell.ours / 1_000.0;
         format!(" {micros:.2} | {} |", spread(cell.others[other].ratios))
     })
+}
+
+/// The check with links in any order, by edition: a row for each size.
+pub fn any_order(editions: &[(usize, Vec<Measured>)]) -> String {
+    let mut table =
+        String::from("| edition | A = N = P | check, µs | ratio |\n|---|---|---|---|\n");
+    for (edition, measured) in editions {
+        for cell in measured {
+            let (size, micros) = (thousands(cell.size), cell.ours / 1_000.0);
+            let ratio = spread(cell.others[PLAIN].ratios);
+            let _ = writeln!(table, "| {edition} | {size} | {micros:.2} | {ratio} |");
+        }
+    }
+    table
 }
 
 /// Ratios by what of the Rust is made before the call: two columns for each call.
@@ -135,6 +149,24 @@ pub fn edition_bars(measured: &[Measured]) -> Vec<Bar> {
         most: 1.3,
     })
     .collect()
+}
+
+/// The check with links in any order, by edition: from 1,024 atoms on it takes at
+/// most 1.5 times plain Rust's time.
+pub fn any_order_bars(editions: &[(usize, Vec<Measured>)]) -> Vec<Bar> {
+    let mut bars = Vec::new();
+    for (edition, measured) in editions {
+        let large = measured.iter().filter(|cell| cell.size >= 1_024);
+        bars.extend(large.map(|cell| Bar {
+            what: format!(
+                "check of edition {edition} at {}, links in any order: ratio",
+                thousands(cell.size)
+            ),
+            figure: cell.others[PLAIN].ratios[1],
+            most: 1.5,
+        }));
+    }
+    bars
 }
 
 /// Edition 2 alone: the pass takes at most 0.7 of the Rust's time at every size,

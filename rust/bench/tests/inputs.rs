@@ -55,6 +55,35 @@ fn both_editions_have_the_same_content() {
     }
 }
 
+/// Another order has the same content, and some next is below its own link.
+fn turned<W: Word + compare::calls::Word>() {
+    for input in inputs::all::<W>(Some(2)) {
+        let any = inputs::any_order(&input);
+        assert_eq!(
+            (any.size, any.loops, any.parts),
+            (input.size, input.loops, input.parts)
+        );
+        for (words, other) in input.graphs.iter().zip(&any.graphs) {
+            assert_eq!(Graph::decode(words), Graph::decode(other));
+            let links = other.len() - 8 * input.size;
+            let nexts = (1..).zip(other[links..].as_chunks::<2>().0.iter().map(|link| link[1]));
+            let next = |word: W| -> u32 { word.into() };
+            assert!(
+                nexts
+                    .into_iter()
+                    .any(|(own, word)| (1..own).contains(&next(word)))
+            );
+            assert_eq!(plain::check(other), Ok(()));
+        }
+    }
+}
+
+#[test]
+fn links_in_any_order() {
+    turned::<u16>();
+    turned::<u32>();
+}
+
 #[test]
 fn memory_of_a_wide_call() {
     for size in WIDE_SIZES {
@@ -108,8 +137,7 @@ fn both_sides_answer_alike_on_large_graphs() {
 /// The plain check against document 01's reading of the table; that of edition 2
 /// against the proved one.
 fn same_refusal(words: &[u16]) {
-    let expected =
-        paper::check(words).map_err(|refusal| (refusal.number, refusal.places[0].into()));
+    let expected = paper::check(words).map_err(|refusal| (refusal.number, refusal.places[0]));
     assert_eq!(plain::check(words), expected, "{words:?}");
     let wide = widened(words);
     // Safety: pointer and length are those of a slice.

@@ -2,7 +2,7 @@
 
 use bench::caches::Cache;
 use bench::inputs::{SIZES, WIDE_SIZES};
-use bench::measure::{EDITION_1, Measured, Other, THEORY};
+use bench::measure::{EDITION_1, Measured, Other, PLAIN, THEORY};
 use bench::report::Bar;
 use bench::sides::Call;
 use bench::{plot, report};
@@ -112,6 +112,25 @@ fn edition_2_is_held_to_edition_1_at_its_largest() {
     assert_eq!(
         broken(bars(&all)),
         ["check at 1,024 with loops: edition 2 by edition 1"]
+    );
+}
+
+#[test]
+fn the_check_with_links_in_any_order() {
+    let mut checks = edition_figures();
+    checks.retain(|cell| cell.call == Call::Check && !cell.loops);
+    let mut editions = [(1, checks)];
+    assert_eq!(report::any_order(&editions).lines().count(), 2 + 4);
+    let bars = report::any_order_bars;
+    assert_eq!(
+        (bars(&editions).len(), broken(bars(&editions)).len()),
+        (1, 0)
+    );
+    pick(&mut editions[0].1, 256, false, Call::Check).others[PLAIN].ratios[1] = 9.0;
+    pick(&mut editions[0].1, 1_024, false, Call::Check).others[PLAIN].ratios[1] = 1.51;
+    assert_eq!(
+        broken(bars(&editions)),
+        ["check of edition 1 at 1,024, links in any order: ratio"]
     );
 }
 
