@@ -1,12 +1,12 @@
 -- An answer as one number, and what each call promises of the number that it returns. lim is the number of values of a graph's word: 65,536 for words of 16 bits,
 -- whose codes have 32 bits, and 4,294,967,296 for words of 32 bits, whose codes have 64.
 use Rattle.std.specs.Prelude.{◌≡◌, ◌↔◌, cond, List, ℕ, ◌+◌, ◌*◌, ◌<◌, eqb}
-use Rattle.theory.specs.Words.{theoryOf}
-use Rattle.theory.specs.Accepted.{Edition, areaOf}
+use Rattle.theory.specs.Words.{theory_of}
+use Rattle.theory.specs.Accepted.{Edition, area_of}
 use Rattle.refusals.specs.Answer.{Answer}
-use Rattle.refusals.specs.Refusals.{graphAnswer}
-use Rattle.cycles.specs.Outcome.{Outcome, refused, loops, refusal, outcome, workAfter, ClosedWalk}
-use Rattle.founded.specs.Answers.{preparedOf, completedOf, Prepares, Completes}
+use Rattle.refusals.specs.Refusals.{graph_answer}
+use Rattle.cycles.specs.Outcome.{Outcome, refused, loops, refusal, outcome, work_after, ClosedWalk}
+use Rattle.founded.specs.Answers.{prepared_of, completed_of, Prepares, Completes}
 use Rattle.founded.specs.declared.Prepared.{Prepared}
 use Rattle.founded.specs.declared.Completed.{Completed}
 
@@ -31,20 +31,20 @@ Placed lim (loops b) = Unit {0}
 module _ (lim : ℕ) (ed : Edition) where
   pub record Needed (graph work work' : List ℕ) (r : ℕ) : Type 0 where
     pub told : NeedTells lim (outcome ed graph work) r
-    pub work-after : work' ≡ workAfter ed graph work
-    pub closed-walk : (refusal ed graph work).number ≡ 0 → (r ≡ 1) ↔ ClosedWalk (theoryOf graph)
+    pub work_after : work' ≡ work_after ed graph work
+    pub closed_walk : (refusal ed graph work).number ≡ 0 → (r ≡ 1) ↔ ClosedWalk (theory_of graph)
 
   -- preparation and pass: r is the code of an answer that keeps the call's promise
   pub record PreparedAs (graph output work output' work' : List ℕ) (r : ℕ) : Type 0 where
     pub answer : Prepared
-    pub told : Tells lim (preparedOf answer) r
+    pub told : Tells lim (prepared_of answer) r
     pub holds : Prepares ed graph output work output' work' answer
 
-  pub record CompletedAs (graph never atomNever output work output' work' : List ℕ) (r : ℕ) : Type 0 where
+  pub record CompletedAs (graph never atom_never output work output' work' : List ℕ) (r : ℕ) : Type 0 where
     pub answer : Completed
-    pub told : Tells lim (completedOf answer) r
-    pub holds : Completes ed graph never atomNever output work output' work' answer
+    pub told : Tells lim (completed_of answer) r
+    pub holds : Completes ed graph never atom_never output work output' work' answer
 
 -- how many words the work area of an accepted graph has; 0 for a graph that is refused
-abbrev pub workWords : Edition → List ℕ → ℕ
-workWords ed graph = cond (eqb (graphAnswer ed graph).number 0) (areaOf ed (theoryOf graph)) 0
+abbrev pub work_words : Edition → List ℕ → ℕ
+work_words ed graph = cond (eqb (graph_answer ed graph).number 0) (area_of ed (theory_of graph)) 0

@@ -1,14 +1,14 @@
 // How long a work area the calls on graphs of edition 2 ask for (refusal 11): a caller cannot tell without walking the chains.
 ghost use Rattle.std.specs.Prelude.{◌≡◌};
 ghost use Rattle.theory.specs.Accepted.{edition2};
-ghost use Rattle.abi.specs.Codes.{workWords};
+ghost use Rattle.abi.specs.Codes.{work_words};
 
 use refusals::Checked;
 
 // Its words; 0 for a graph that is refused.
 #[unsafe(no_mangle)]
 pub extern "C" fn founded_wide_work_words(graph: &[u32]) -> u64
-    ensures { result ≡ workWords edition2 graph.now }
+    ensures { result ≡ work_words edition2 graph.now }
 {
     let checked = checking32::check(graph);
     let Checked::Accepted = checked else {

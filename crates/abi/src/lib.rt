@@ -6,9 +6,9 @@ mod wide;
 ghost use Rattle.std.specs.Prelude.{◌<◌};
 ghost use Rattle.theory.specs.Accepted.{edition1};
 ghost use Rattle.refusals.specs.Answer.{refuse};
-ghost use Rattle.refusals.specs.Refusals.{graphAnswer, answer_of};
-ghost use Rattle.cycles.specs.Outcome.{outcomeOf};
-ghost use Rattle.founded.specs.Answers.{preparedOf, completedOf};
+ghost use Rattle.refusals.specs.Refusals.{graph_answer, answer_of};
+ghost use Rattle.cycles.specs.Outcome.{outcome_of};
+ghost use Rattle.founded.specs.Answers.{prepared_of, completed_of};
 ghost use Rattle.abi.specs.Codes.{Tells, NeedTells, Placed, Needed, PreparedAs, CompletedAs};
 
 use cycles::Need;
@@ -31,8 +31,8 @@ fn checked_code(c: Checked) -> u32
 }
 
 fn needed_code(n: Need) -> u32
-    requires { Placed 65536 (outcomeOf n) }
-    ensures { NeedTells 65536 (outcomeOf n) result }
+    requires { Placed 65536 (outcome_of n) }
+    ensures { NeedTells 65536 (outcome_of n) result }
 {
     match n {
         Need::No => 0,
@@ -43,8 +43,8 @@ fn needed_code(n: Need) -> u32
 }
 
 fn prepared_code(p: Prepared) -> u32
-    requires { (preparedOf p).place < 65536 }
-    ensures { Tells 65536 (preparedOf p) result }
+    requires { (prepared_of p).place < 65536 }
+    ensures { Tells 65536 (prepared_of p) result }
 {
     match p {
         Prepared::Done => 0,
@@ -56,8 +56,8 @@ fn prepared_code(p: Prepared) -> u32
 }
 
 fn completed_code(c: Completed) -> u32
-    requires { (completedOf c).place < 65536 }
-    ensures { Tells 65536 (completedOf c) result }
+    requires { (completed_of c).place < 65536 }
+    ensures { Tells 65536 (completed_of c) result }
 {
     code(numbers::completed_number(c), numbers::completed_place(c))
 }
@@ -65,7 +65,7 @@ fn completed_code(c: Completed) -> u32
 // The graph check.
 #[unsafe(no_mangle)]
 pub extern "C" fn founded_check(graph: &[u16]) -> u32
-    ensures { Tells 65536 (graphAnswer edition1 graph.now) result }
+    ensures { Tells 65536 (graph_answer edition1 graph.now) result }
 {
     checked_code(checking::check(graph))
 }

@@ -3,9 +3,9 @@
 ghost use Rattle.std.specs.Prelude.{◌<◌};
 ghost use Rattle.theory.specs.Accepted.{edition2};
 ghost use Rattle.refusals.specs.Answer.{refuse};
-ghost use Rattle.refusals.specs.Refusals.{graphAnswer, answer_of};
-ghost use Rattle.cycles.specs.Outcome.{outcomeOf};
-ghost use Rattle.founded.specs.Answers.{preparedOf, completedOf};
+ghost use Rattle.refusals.specs.Refusals.{graph_answer, answer_of};
+ghost use Rattle.cycles.specs.Outcome.{outcome_of};
+ghost use Rattle.founded.specs.Answers.{prepared_of, completed_of};
 ghost use Rattle.abi.specs.Codes.{Tells, NeedTells, Placed, Needed, PreparedAs, CompletedAs};
 
 use cycles::Need;
@@ -28,8 +28,8 @@ fn checked_code(c: Checked) -> u64
 }
 
 fn needed_code(n: Need) -> u64
-    requires { Placed 4294967296 (outcomeOf n) }
-    ensures { NeedTells 4294967296 (outcomeOf n) result }
+    requires { Placed 4294967296 (outcome_of n) }
+    ensures { NeedTells 4294967296 (outcome_of n) result }
 {
     match n {
         Need::No => 0,
@@ -40,8 +40,8 @@ fn needed_code(n: Need) -> u64
 }
 
 fn prepared_code(p: Prepared) -> u64
-    requires { (preparedOf p).place < 4294967296 }
-    ensures { Tells 4294967296 (preparedOf p) result }
+    requires { (prepared_of p).place < 4294967296 }
+    ensures { Tells 4294967296 (prepared_of p) result }
 {
     match p {
         Prepared::Done => 0,
@@ -53,8 +53,8 @@ fn prepared_code(p: Prepared) -> u64
 }
 
 fn completed_code(c: Completed) -> u64
-    requires { (completedOf c).place < 4294967296 }
-    ensures { Tells 4294967296 (completedOf c) result }
+    requires { (completed_of c).place < 4294967296 }
+    ensures { Tells 4294967296 (completed_of c) result }
 {
     code(numbers::completed_number(c), numbers::completed_place(c))
 }
@@ -62,7 +62,7 @@ fn completed_code(c: Completed) -> u64
 // The graph check.
 #[unsafe(no_mangle)]
 pub extern "C" fn founded_wide_check(graph: &[u32]) -> u64
-    ensures { Tells 4294967296 (graphAnswer edition2 graph.now) result }
+    ensures { Tells 4294967296 (graph_answer edition2 graph.now) result }
 {
     checked_code(checking32::check(graph))
 }

@@ -11,12 +11,12 @@ use native.Mathlib.Numerals.{add-one}
 use native.Mathlib.Decide.{ℕ_discrete, dec_lt}
 use lib.ListN.{length, get_or, set, take, length-set, length-append}
 use lib.Seq.{slice, get_or-set_same, get_or-set_other, get_or-append_seam, get_or-take, get_or-drop, length-slice, ext_get_or}
-use Rattle.theory.specs.Sets.{sumBelow}
+use Rattle.theory.specs.Sets.{sum_below}
 use Rattle.theory.specs.Rows.{Edge, edge, entries}
 use Rattle.theory.specs.Drive.{Follows, Drives}
 use Rattle.theory.proofs.SetLaws.{clash}
 use Rattle.theory.proofs.CountLaws.{sum_step, sum_mono, sum_same}
-use Rattle.theory.proofs.RowLaws.{entries-same, entries-other, entries-append}
+use Rattle.theory.proofs.RowLaws.{entries_same, entries_other, entries_append}
 use Rattle.adjacency.specs.Tables.{Tabled, start_at, row_at}
 use Rattle.adjacency.specs.Building.{Keyed, start_of, Building, sum_of, Summed}
 
@@ -28,7 +28,7 @@ module _ {lim : ℕ} {m : Bool} {rows : ℕ} {all : List Edge} {q : List ℕ} {t
 
   -- row k: what is passed, x, and what is to come
   split : entries k all ≡ entries k h.done ++ x ∷ entries k todo
-  split = ap (entries k) (sym h.whole) ∙ entries-append k h.done (edge k x ∷ todo) ∙ ap (λ (l : List ℕ). entries k h.done ++ l) (entries-same k x todo)
+  split = ap (entries k) (sym h.whole) ∙ entries_append k h.done (edge k x ∷ todo) ∙ ap (λ (l : List ℕ). entries k h.done ++ l) (entries_same k x todo)
 
   shorter : length (entries k h.done) < length (entries k all)
   shorter = rw (split, length-append) (omega arith)
@@ -36,8 +36,8 @@ module _ {lim : ℕ} {m : Bool} {rows : ℕ} {all : List Edge} {q : List ℕ} {t
   inside : start_of all k + length (entries k all) ≤ start_of all rows
   inside = let a = sum_mono (suc k) rows (λ s. length (entries s all)) low in let e = sum_step k (λ s. length (entries s all)) in omega arith
 
-  cursor-low : get_or q (k + 1) 0 < start_of all rows
-  cursor-low = go m (h.cursors k low)
+  cursor_low : get_or q (k + 1) 0 < start_of all rows
+  cursor_low = go m (h.cursors k low)
     where
       go : (b : Bool) → get_or q (k + 1) 0 ≡ cond b (start_of all k) 0 + length (entries k h.done) → get_or q (k + 1) 0 < start_of all rows
       go true e = let a = inside in let s = shorter in omega arith
@@ -45,11 +45,11 @@ module _ {lim : ℕ} {m : Bool} {rows : ℕ} {all : List Edge} {q : List ℕ} {t
 
   grown : length (entries k (h.done ++ (edge k x ∷ []))) ≡ length (entries k h.done) + 1
   unfolding entries
-  grown = ap length (entries-append k h.done (edge k x ∷ []) ∙ ap (λ (l : List ℕ). entries k h.done ++ l) (entries-same k x [])) ∙ length-append (entries k h.done) (x ∷ [])
+  grown = ap length (entries_append k h.done (edge k x ∷ []) ∙ ap (λ (l : List ℕ). entries k h.done ++ l) (entries_same k x [])) ∙ length-append (entries k h.done) (x ∷ [])
 
   same : (r : ℕ) → r ≢ k → entries r (h.done ++ (edge k x ∷ [])) ≡ entries r h.done
   unfolding entries
-  same r n = entries-append r h.done (edge k x ∷ []) ∙ ap (λ (l : List ℕ). entries r h.done ++ l) (entries-other r k x [] n) ∙ append-nil (entries r h.done)
+  same r n = entries_append r h.done (edge k x ∷ []) ∙ ap (λ (l : List ℕ). entries r h.done ++ l) (entries_other r k x [] n) ∙ append-nil (entries r h.done)
 
   -- the cursor of row k goes on
   module _ (q' : List ℕ) (size : length q' ≡ length q) (there : get_or q' (k + 1) 0 ≡ get_or q (k + 1) 0 + 1) (others : (i : ℕ) → i < rows + 1 → i ≢ k + 1 → get_or q' i 0 ≡ get_or q i 0) where
@@ -72,15 +72,15 @@ module _ {lim : ℕ} {m : Bool} {rows : ℕ} {all : List Edge} {q : List ℕ} {t
       filled = filled;
     }
 
-  build-count : m ≡ false → Building lim m rows all (set q (k + 1) (get_or q (k + 1) 0 + 1)) t todo
-  build-count e =
+  build_count : m ≡ false → Building lim m rows all (set q (k + 1) (get_or q (k + 1) 0 + 1)) t todo
+  build_count e =
       build (set q (k + 1) (get_or q (k + 1) 0 + 1)) (length-set q (k + 1) (get_or q (k + 1) 0 + 1))
       (get_or-set_same q (k + 1) (get_or q (k + 1) 0 + 1) 0 (let l = low in let a = h.room in omega arith))
       (λ i l n. get_or-set_other q (k + 1) i (get_or q (k + 1) 0 + 1) 0 n)
       (λ y. clash y e)
 
-  build-fill : m ≡ true → Building lim m rows all (set (set q (k + 1) (get_or q (k + 1) 0 + 1)) (rows + 1 + get_or q (k + 1) 0) x) t todo
-  build-fill e =
+  build_fill : m ≡ true → Building lim m rows all (set (set q (k + 1) (get_or q (k + 1) 0 + 1)) (rows + 1 + get_or q (k + 1) 0) x) t todo
+  build_fill e =
       build q₂ (length-set q₁ (rows + 1 + p) x ∙ length-set q (k + 1) (p + 1))
       (get_or-set_other q₁ (rows + 1 + p) (k + 1) x 0 (λ y. let l = low in omega arith) ∙ get_or-set_same q (k + 1) (p + 1) 0 (let l = low in let a = h.room in omega arith))
       (λ i l n. get_or-set_other q₁ (rows + 1 + p) i x 0 (λ y. omega arith) ∙ get_or-set_other q (k + 1) i (p + 1) 0 n)
@@ -112,7 +112,7 @@ module _ {lim : ℕ} {m : Bool} {rows : ℕ} {all : List Edge} {q : List ℕ} {t
           fits : i < length (entries r all)
           fits =
               let j' : i < length (entries r h.done) = subst (λ (l : List ℕ). i < length l) (same r n) j in
-              omega (arith, ap length (ap (entries r) (sym h.whole) ∙ entries-append r h.done (edge k x ∷ todo)), length-append (entries r h.done) (entries r (edge k x ∷ todo)))
+              omega (arith, ap length (ap (entries r) (sym h.whole) ∙ entries_append r h.done (edge k x ∷ todo)), length-append (entries r h.done) (entries r (edge k x ∷ todo)))
 
           apart : Dec (r < k) → start_of all r + i ≢ p
           apart (yes b) = λ y. let c = cursor in let f = fits in omega (arith, sum_mono (suc r) k (λ s. length (entries s all)) b, sum_step r (λ s. length (entries s all)))
@@ -127,7 +127,7 @@ module _ {lim : ℕ} {m : Bool} {rows : ℕ} {all : List Edge} {q : List ℕ} {t
               let c = cursor in
               let d : start_of all k + i ≡ p = omega arith in
               ap (λ (a : ℕ). get_or q₂ (rows + 1 + a) 0) d
-              ∙ get_or-set_same q₁ (rows + 1 + p) x 0 (rw length-set (let a = h.room in let b = cursor-low in omega arith))
+              ∙ get_or-set_same q₁ (rows + 1 + p) x 0 (rw length-set (let a = h.room in let b = cursor_low in omega arith))
               ∙ sym (ap₂ (λ (l : List ℕ) (n : ℕ). get_or l n 0) split y ∙ get_or-append_seam (entries k h.done) x (entries k todo) 0)
           here (no y) = let c = cursor in let jj = j' in stays (start_of all k + i) (λ d. y (omega arith)) ∙ h.filled e k i low (omega arith)
 
@@ -140,30 +140,30 @@ pub record Placing (lim rows : ℕ) (q : List ℕ) (k x : ℕ) : Type 0 where
 
 pub placing : {lim : ℕ} {m : Bool} {rows : ℕ} {q : List ℕ} {t k x : ℕ} → Follows (Building lim m rows) q t (edge k x ∷ []) → Placing lim rows q k x
 placing f =
-    let h = f.held in let l = cursor-low h in let a = h.small in let b = h.room in
+    let h = f.held in let l = cursor_low h in let a = h.small in let b = h.room in
     record { row = h.keyed.0; entry = h.keyed.1; fits = omega arith; slot = omega arith }
 
 module _ {lim : ℕ} {m : Bool} {rows : ℕ} {q : List ℕ} {t k x : ℕ} where
-  pub drives-counted : m ≡ false → Drives (Building lim m rows) 0 q t (edge k x ∷ []) (set q (k + 1) (get_or q (k + 1) 0 + 1)) t []
-  drives-counted e = record { frame = refl; size = length-set q (k + 1) _; keeps = λ c more h. build-count h e }
+  pub drives_counted : m ≡ false → Drives (Building lim m rows) 0 q t (edge k x ∷ []) (set q (k + 1) (get_or q (k + 1) 0 + 1)) t []
+  drives_counted e = record { frame = refl; size = length-set q (k + 1) _; keeps = λ c more h. build_count h e }
 
-  pub drives-filled : m ≡ true → Drives (Building lim m rows) 0 q t (edge k x ∷ []) (set (set q (k + 1) (get_or q (k + 1) 0 + 1)) (rows + 1 + get_or q (k + 1) 0) x) t []
-  drives-filled e = record { frame = refl; size = length-set (set q (k + 1) _) _ x ∙ length-set q (k + 1) _; keeps = λ c more h. build-fill h e }
+  pub drives_filled : m ≡ true → Drives (Building lim m rows) 0 q t (edge k x ∷ []) (set (set q (k + 1) (get_or q (k + 1) 0 + 1)) (rows + 1 + get_or q (k + 1) 0) x) t []
+  drives_filled e = record { frame = refl; size = length-set (set q (k + 1) _) _ x ∙ length-set q (k + 1) _; keeps = λ c more h. build_fill h e }
 
 -- ---- counts become starts
 
-pub summed-none : (q : List ℕ) → Summed q q 0 0
-unfolding sumBelow
-summed-none q = record { size = refl; sofar = refl; made = λ s h. absurd (omega arith); first = refl; rest = λ i h. refl }
+pub summed_none : (q : List ℕ) → Summed q q 0 0
+unfolding sum_below
+summed_none q = record { size = refl; sofar = refl; made = λ s h. absurd (omega arith); first = refl; rest = λ i h. refl }
 
 module _ {q₀ q : List ℕ} {r total n : ℕ} (s : Summed q₀ q r total) (en : n ≡ get_or q (r + 1) 0) where
-  pub summed-next : total + n ≡ sum_of q₀ (r + 1)
-  summed-next = rw add-one (let a = s.sofar in let b = s.rest (r + 1) (omega arith) in let c = sum_step r (λ s. get_or q₀ (s + 1) 0) in omega arith)
+  pub summed_next : total + n ≡ sum_of q₀ (r + 1)
+  summed_next = rw add-one (let a = s.sofar in let b = s.rest (r + 1) (omega arith) in let c = sum_step r (λ s. get_or q₀ (s + 1) 0) in omega arith)
 
-  pub summed-more : r + 1 < length q → Summed q₀ (set q (r + 1) total) (r + 1) (total + n)
-  summed-more h = record {
+  pub summed_more : r + 1 < length q → Summed q₀ (set q (r + 1) total) (r + 1) (total + n)
+  summed_more h = record {
     size = length-set q (r + 1) total ∙ s.size;
-    sofar = summed-next;
+    sofar = summed_next;
     made = λ k l. made k l (ℕ_discrete k r);
     first = get_or-set_other q (r + 1) 0 total 0 (λ e. omega arith) ∙ s.first;
     rest = λ i l. get_or-set_other q (r + 1) i total 0 (λ e. omega arith) ∙ s.rest i (omega arith);
@@ -176,9 +176,9 @@ module _ {q₀ q : List ℕ} {r total n : ℕ} (s : Summed q₀ q r total) (en :
 -- ---- from a cleared part to a table
 
 module _ {lim rows : ℕ} {all : List Edge} (keyed : Keyed lim rows all) (small : start_of all rows < lim) where
-  pub count-start : (q : List ℕ) → rows + 1 + start_of all rows ≤ length q → ((i : ℕ) → i < rows + 1 → get_or q i 0 ≡ 0) → Building lim false rows all q 0 all
+  pub count_start : (q : List ℕ) → rows + 1 + start_of all rows ≤ length q → ((i : ℕ) → i < rows + 1 → get_or q i 0 ≡ 0) → Building lim false rows all q 0 all
   unfolding entries
-  count-start q room zeros = record {
+  count_start q room zeros = record {
     done = [];
     whole = refl;
     keyed = keyed;
@@ -215,7 +215,7 @@ module _ {lim rows : ℕ} {all : List Edge} {q : List ℕ} (b : Building lim tru
   done_all = sym (append-nil b.done) ∙ b.whole
 
   offset : (r : ℕ) → r ≤ rows → get_or q (0 + r) 0 ≡ start_of all r
-  unfolding sumBelow
+  unfolding sum_below
   offset zero l = b.first
   offset (suc r) l =
       ap (λ (k : ℕ). get_or q k 0) (zero-add (suc r) ∙ sym (add-one r)) ∙ b.cursors r l

@@ -9,70 +9,70 @@ use native.Mathlib.Nat.{zero-add}
 use lib.ListN.{length, get_or, take, drop, replicate, length-append, length-take, length-drop, length-replicate, get_or-replicate, get_or-append}
 use lib.Seq.{slice}
 use Rattle.theory.specs.Theory.{Theory}
-use Rattle.theory.specs.Words.{theoryOf}
+use Rattle.theory.specs.Words.{theory_of}
 use Rattle.theory.specs.Accepted.{Edition, Accepted}
 use Rattle.theory.specs.Rows.{Edge, entries}
 use Rattle.theory.specs.Drive.{Follows, Drives}
-use Rattle.theory.proofs.RowLaws.{atom-nodes-few, parents-few, by-head-few, by-body-few}
-use Rattle.theory.proofs.DriveLaws.{follows-all, drives-all}
+use Rattle.theory.proofs.RowLaws.{atom_nodes_few, parents_few, by_head_few, by_body_few}
+use Rattle.theory.proofs.DriveLaws.{follows_all, drives_all}
 use Rattle.area.specs.declared.Bases.{Bases}
-use Rattle.area.proofs.PartLaws.{part_length, part-before, part_at, part_slice, frame_at, frame-slice}
+use Rattle.area.proofs.PartLaws.{part_length, part_before, part_at, part_slice, frame_at, frame_slice}
 use Rattle.adjacency.specs.declared.Table.{Table}
 use Rattle.adjacency.specs.declared.Table.TheVariants.{AtomNodes, Parents, ByHead, ByBody}
-use Rattle.adjacency.specs.Tables.{rows_of, items_of, edgesOf, base_of, next_of, start_at, Tabled, Built}
+use Rattle.adjacency.specs.Tables.{rows_of, items_of, edges_of, base_of, next_of, start_at, Tabled, Built}
 use Rattle.adjacency.specs.Building.{Keyed, start_of, Building, sum_of, Summed}
-use Rattle.adjacency.proofs.BuildLaws.{count-start, counted, fill_start, built}
-use Rattle.adjacency.proofs.KeyLaws.{edges-keyed, starts-few}
+use Rattle.adjacency.proofs.BuildLaws.{count_start, counted, fill_start, built}
+use Rattle.adjacency.proofs.KeyLaws.{edges_keyed, starts_few}
 
 -- p is the cleared front of the part
 pub record Start (lim : ℕ) (th : Theory) (t : Table) (rows : ℕ) (part p : List ℕ) : Type 0 where
   pub rows_are : rows ≡ rows_of th t
-  pub keyed : Keyed lim (rows_of th t) (edgesOf th t)
-  pub few : length (edgesOf th t) < lim
+  pub keyed : Keyed lim (rows_of th t) (edges_of th t)
+  pub few : length (edges_of th t) < lim
   pub zeros : p ≡ replicate (length (take (rows + 1) part)) 0
-  pub room : rows_of th t + 1 + length (edgesOf th t) ≤ length part
+  pub room : rows_of th t + 1 + length (edges_of th t) ≤ length part
 
-pub start : {ed : Edition} {ws : List ℕ} {lim rows : ℕ} {part p : List ℕ} → Accepted ed ws → ed.counts < lim → ed.entries < lim → (t : Table) → rows ≡ rows_of (theoryOf ws) t
-    → p ≡ replicate (length (take (rows + 1) part)) 0 → rows_of (theoryOf ws) t + 1 + length (edgesOf (theoryOf ws) t) ≤ length part → Start lim (theoryOf ws) t rows part p
-unfolding theoryOf Rattle.theory.specs.Rows.atomNodes Rattle.theory.specs.Rows.parents Rattle.theory.specs.Rows.byHead Rattle.theory.specs.Rows.byBody
+pub start : {ed : Edition} {ws : List ℕ} {lim rows : ℕ} {part p : List ℕ} → Accepted ed ws → ed.counts < lim → ed.entries < lim → (t : Table) → rows ≡ rows_of (theory_of ws) t
+    → p ≡ replicate (length (take (rows + 1) part)) 0 → rows_of (theory_of ws) t + 1 + length (edges_of (theory_of ws) t) ≤ length part → Start lim (theory_of ws) t rows part p
+unfolding theory_of Rattle.theory.specs.Rows.atom_nodes Rattle.theory.specs.Rows.parents Rattle.theory.specs.Rows.by_head Rattle.theory.specs.Rows.by_body
 start {ed} {ws} {lim} acc c n t er ep room = record {
   rows_are = er;
-  keyed = edges-keyed (theoryOf ws) acc.well-formed lim t (items t);
+  keyed = edges_keyed (theory_of ws) acc.well_formed lim t (items t);
   few = few t;
   zeros = ep;
   room = room;
 }
   where
-    items : (t : Table) → items_of (theoryOf ws) t ≤ lim
-    items AtomNodes = let k = acc.nodes-few in omega arith
-    items Parents = let k = acc.nodes-few in omega arith
-    items ByHead = let k = acc.producers-few in omega arith
-    items ByBody = let k = acc.producers-few in omega arith
+    items : (t : Table) → items_of (theory_of ws) t ≤ lim
+    items AtomNodes = let k = acc.nodes_few in omega arith
+    items Parents = let k = acc.nodes_few in omega arith
+    items ByHead = let k = acc.producers_few in omega arith
+    items ByBody = let k = acc.producers_few in omega arith
 
-    few : (t : Table) → length (edgesOf (theoryOf ws) t) < lim
-    few AtomNodes = let k = acc.nodes-few in let e = atom-nodes-few (theoryOf ws) in omega arith
-    few Parents = let k = acc.leaf-total in let e = parents-few (theoryOf ws) in omega arith
-    few ByHead = let k = acc.head-total in let e = by-head-few (theoryOf ws) in omega arith
-    few ByBody = let k = acc.producers-few in let e = by-body-few (theoryOf ws) in omega arith
+    few : (t : Table) → length (edges_of (theory_of ws) t) < lim
+    few AtomNodes = let k = acc.nodes_few in let e = atom_nodes_few (theory_of ws) in omega arith
+    few Parents = let k = acc.leaf_total in let e = parents_few (theory_of ws) in omega arith
+    few ByHead = let k = acc.head_total in let e = by_head_few (theory_of ws) in omega arith
+    few ByBody = let k = acc.producers_few in let e = by_body_few (theory_of ws) in omega arith
 
 module _ {lim : ℕ} {th : Theory} {t : Table} {rows : ℕ} {part p : List ℕ} (x : Start lim th t rows part p) where
-  keyed : Keyed lim rows (edgesOf th t)
+  keyed : Keyed lim rows (edges_of th t)
   keyed = rw x.rows_are x.keyed
 
-  small : start_of (edgesOf th t) rows < lim
-  small = let a = starts-few (edgesOf th t) rows (length (edgesOf th t)) (omega arith) in let b = x.few in omega arith
+  small : start_of (edges_of th t) rows < lim
+  small = let a = starts_few (edges_of th t) rows (length (edges_of th t)) (omega arith) in let b = x.few in omega arith
 
   size : length (p ++ drop (rows + 1) part) ≡ length part
   size = rw x.zeros (simp (length-append, length-replicate, length-take, length-drop) (omega arith))
 
-  counting : Building lim false rows (edgesOf th t) (p ++ drop (rows + 1) part) 0 (edgesOf th t)
-  counting = count-start keyed small (p ++ drop (rows + 1) part) room zero
+  counting : Building lim false rows (edges_of th t) (p ++ drop (rows + 1) part) 0 (edges_of th t)
+  counting = count_start keyed small (p ++ drop (rows + 1) part) room zero
     where
       front : length (take (rows + 1) part) ≡ rows + 1
       front = let e = x.rows_are in let r = x.room in simp length-take (omega arith)
 
-      room : rows + 1 + start_of (edgesOf th t) rows ≤ length (p ++ drop (rows + 1) part)
-      room = let a = starts-few (edgesOf th t) rows (length (edgesOf th t)) (omega arith) in let b = x.room in let e = x.rows_are in let s = size in omega arith
+      room : rows + 1 + start_of (edges_of th t) rows ≤ length (p ++ drop (rows + 1) part)
+      room = let a = starts_few (edges_of th t) rows (length (edges_of th t)) (omega arith) in let b = x.room in let e = x.rows_are in let s = size in omega arith
 
       long : length p ≡ rows + 1
       long = ap length x.zeros ∙ length-replicate (length (take (rows + 1) part)) 0 ∙ front
@@ -82,25 +82,25 @@ module _ {lim : ℕ} {th : Theory} {t : Table} {rows : ℕ} {part p : List ℕ} 
           get_or-append p (drop (rows + 1) part) 0 i (let k = long in omega arith)
           ∙ ap (λ (l : List ℕ). get_or l i 0) x.zeros ∙ get_or-replicate (length (take (rows + 1) part)) i 0 0 (let k = front in omega arith)
 
-  pub to-count : Follows (Building lim false rows) (p ++ drop (rows + 1) part) 0 (edgesOf th t)
-  to-count = follows-all (Building lim false rows) counting
+  pub to_count : Follows (Building lim false rows) (p ++ drop (rows + 1) part) 0 (edges_of th t)
+  to_count = follows_all (Building lim false rows) counting
 
-  module _ {q : List ℕ} (d : Drives (Building lim false rows) 0 (p ++ drop (rows + 1) part) 0 (edgesOf th t) q 0 []) where
-    after : Building lim false rows (edgesOf th t) q 0 []
-    after = drives-all (Building lim false rows) counting d
+  module _ {q : List ℕ} (d : Drives (Building lim false rows) 0 (p ++ drop (rows + 1) part) 0 (edges_of th t) q 0 []) where
+    after : Building lim false rows (edges_of th t) q 0 []
+    after = drives_all (Building lim false rows) counting d
 
-    pub to-sum : (rows + 1 ≤ length q) × (sum_of q rows < lim)
-    to-sum = let r = after.room in let s = small in (omega arith, omega (arith, counted keyed small after rows (omega arith)))
+    pub to_sum : (rows + 1 ≤ length q) × (sum_of q rows < lim)
+    to_sum = let r = after.room in let s = small in (omega arith, omega (arith, counted keyed small after rows (omega arith)))
 
     module _ {q' : List ℕ} {total : ℕ} (s : Summed q q' rows total) where
-      filling : Building lim true rows (edgesOf th t) q' 0 (edgesOf th t)
+      filling : Building lim true rows (edges_of th t) q' 0 (edges_of th t)
       filling = fill_start keyed small after s
 
-      pub to_fill : Follows (Building lim true rows) q' 0 (edgesOf th t)
-      to_fill = follows-all (Building lim true rows) filling
+      pub to_fill : Follows (Building lim true rows) q' 0 (edges_of th t)
+      to_fill = follows_all (Building lim true rows) filling
 
-      pub filled : {q'' : List ℕ} → Drives (Building lim true rows) 0 q' 0 (edgesOf th t) q'' 0 [] → Tabled (length part) q'' 0 (rows_of th t) (edgesOf th t)
-      filled {q''} f = let e : length q'' ≡ length part = f.size ∙ s.size ∙ d.size ∙ size in rw (x.rows_are, e) at (built (drives-all (Building lim true rows) filling f))
+      pub filled : {q'' : List ℕ} → Drives (Building lim true rows) 0 q' 0 (edges_of th t) q'' 0 [] → Tabled (length part) q'' 0 (rows_of th t) (edges_of th t)
+      filled {q''} f = let e : length q'' ≡ length part = f.size ∙ s.size ∙ d.size ∙ size in rw (x.rows_are, e) at (built (drives_all (Building lim true rows) filling f))
 
 -- ---- in the whole
 
@@ -111,7 +111,7 @@ module _ {n : ℕ} {w : List ℕ} {base rows : ℕ} {edges : List Edge} (x : Tab
     long = let k = x.long in omega arith;
     rising = λ r l. let a = same r (omega arith) in let c = same (r + 1) (omega arith) in let k = x.rising r l in omega arith;
     inside = λ r l. let a = same r l in let k = x.inside r l in omega arith;
-    row = λ r l. ap₂ (λ (f t : ℕ). slice f t w') (same r (omega arith)) (same (r + 1) (omega arith)) ∙ frame-slice n w w' e (start_at w base rows r) (start_at w base rows (r + 1)) (x.inside (r + 1) (omega arith)) ∙ x.row r l;
+    row = λ r l. ap₂ (λ (f t : ℕ). slice f t w') (same r (omega arith)) (same (r + 1) (omega arith)) ∙ frame_slice n w w' e (start_at w base rows r) (start_at w base rows (r + 1)) (x.inside (r + 1) (omega arith)) ∙ x.row r l;
   }
     where
       same : (r : ℕ) → r ≤ rows → start_at w' base rows r ≡ start_at w base rows r
@@ -141,14 +141,14 @@ placed {rows} {edges} a e w p h k size x = record {
         omega arith
 
 pub stood : {th : Theory} {b : Bases} {t : Table} {from to : ℕ} (w p : List ℕ) → from ≡ base_of b t → to ≡ next_of b t
-    → (base_of b t + (rows_of th t + 1 + length (edgesOf th t)) ≤ next_of b t) × (next_of b t ≤ length w) → length p ≡ to - from
-    → Tabled (length (take (to - from) (drop from w))) p 0 (rows_of th t) (edgesOf th t) → Built th b t w (take from w ++ (p ++ drop (to - from) (drop from w)))
+    → (base_of b t + (rows_of th t + 1 + length (edges_of th t)) ≤ next_of b t) × (next_of b t ≤ length w) → length p ≡ to - from
+    → Tabled (length (take (to - from) (drop from w))) p 0 (rows_of th t) (edges_of th t) → Built th b t w (take from w ++ (p ++ drop (to - from) (drop from w)))
 stood {th} {b} {t} {from} {to} w p ef et fits size x =
     let h : from ≤ to = omega arith in
     let k : to ≤ length w = omega arith in
     let m : length (take (to - from) (drop from w)) ≡ length p = simp (length-take, length-drop) (omega arith) in
     record {
       size = part_length from to w p h k size;
-      before = rw (sym ef) (part-before from to w p h k size);
+      before = rw (sym ef) (part_before from to w p h k size);
       table = rw (sym ef, sym et) (placed from to w p h k size (rw m at x));
     }

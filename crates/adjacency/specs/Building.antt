@@ -1,7 +1,7 @@
 -- What the row builder keeps, over any list of edges: the part's first rows + 1 words are offsets, and the entries follow. lim is the number
 -- of values of a word.
 use Rattle.std.specs.Prelude.{◌≡◌, Bool, true, cond, List, [], ◌∷◌, ◌++◌, ℕ, ◌+◌, ◌≤◌, ◌<◌, length, get_or}
-use Rattle.theory.specs.Sets.{sumBelow}
+use Rattle.theory.specs.Sets.{sum_below}
 use Rattle.theory.specs.Rows.{Edge, entries}
 
 -- the edges lie in the rows, and their entries fit a word
@@ -11,7 +11,7 @@ Keyed lim rows (e ∷ l) = (e.row < rows) × (e.entry < lim) × Keyed lim rows l
 
 -- how many entries come before row r
 abbrev pub start_of : List Edge → ℕ → ℕ
-start_of all r = sumBelow r (λ s. length (entries s all))
+start_of all r = sum_below r (λ s. length (entries s all))
 
 -- all: the edges. todo: those to come. Word r + 1 is the cursor of row r: it counts from 0, or fills from the row's start.
 pub record Building (lim : ℕ) (filling : Bool) (rows : ℕ) (all : List Edge) (q : List ℕ) (t : ℕ) (todo : List Edge) : Type 0 where
@@ -26,7 +26,7 @@ pub record Building (lim : ℕ) (filling : Bool) (rows : ℕ) (all : List Edge) 
 
 -- the counts of the rows below r
 abbrev pub sum_of : List ℕ → ℕ → ℕ
-sum_of q r = sumBelow r (λ s. get_or q (s + 1) 0)
+sum_of q r = sum_below r (λ s. get_or q (s + 1) 0)
 
 -- those counts are starts now
 pub record Summed (q₀ q : List ℕ) (r total : ℕ) : Type 0 where

@@ -2,7 +2,7 @@
 use Rattle.std.specs.Prelude.{◌≡◌, List, ℕ, ◌+◌, ◌≤◌, ◌<◌, length, get_or, take}
 use Rattle.std.proofs.Math.Seq.{slice}
 use Rattle.theory.specs.Theory.{Theory}
-use Rattle.theory.specs.Rows.{Edge, entries, stream, bodyKeys, atomKeys, leafKeys}
+use Rattle.theory.specs.Rows.{Edge, entries, stream, body_keys, atom_keys, leaf_keys}
 use Rattle.area.specs.declared.Bases.{Bases}
 use Rattle.adjacency.specs.declared.Table.{Table}
 use Rattle.adjacency.specs.declared.Table.TheVariants.{AtomNodes, Parents, ByHead, ByBody}
@@ -36,13 +36,13 @@ module _ (th : Theory) where
   items_of ByBody = th.producers
 
   abbrev pub keys_of : Table → ℕ → List ℕ
-  keys_of AtomNodes n = atomKeys th (th.kind n) n
-  keys_of Parents n = leafKeys th (th.kind n) n
+  keys_of AtomNodes n = atom_keys th (th.kind n) n
+  keys_of Parents n = leaf_keys th (th.kind n) n
   keys_of ByHead p = th.heads p
-  keys_of ByBody p = bodyKeys (th.body p)
+  keys_of ByBody p = body_keys (th.body p)
 
-  abbrev pub edgesOf : Table → List Edge
-  edgesOf t = stream (keys_of t) 0 (items_of t)
+  abbrev pub edges_of : Table → List Edge
+  edges_of t = stream (keys_of t) 0 (items_of t)
 
 abbrev pub base_of : Bases → Table → ℕ
 base_of b AtomNodes = b.atom_nodes
@@ -60,4 +60,4 @@ next_of b ByBody = b.states
 pub record Built (th : Theory) (b : Bases) (t : Table) (w w' : List ℕ) : Type 0 where
   pub size : length w' ≡ length w
   pub before : take (base_of b t) w' ≡ take (base_of b t) w
-  pub table : Tabled (next_of b t) w' (base_of b t) (rows_of th t) (edgesOf th t)
+  pub table : Tabled (next_of b t) w' (base_of b t) (rows_of th t) (edges_of th t)

@@ -2,13 +2,13 @@
 // Incidence rows by counting, summing and filling. A table is rows + 1 offsets and then the entries, in a lent part of the work area; what
 // stood there before has no effect.
 ghost use Rattle.std.specs.Prelude.{◌≡◌, [], ◌∷◌, ◌+◌, ◌<◌, ◌≤◌, length};
-ghost use Rattle.theory.specs.Words.{chain, theoryOf};
+ghost use Rattle.theory.specs.Words.{chain, theory_of};
 ghost use Rattle.theory.specs.Links.{MeetsOnce};
 ghost use Rattle.theory.specs.Accepted.{Accepted, edition2};
-ghost use Rattle.theory.specs.Rows.{edge, tagged, bodyKeys, atomKeys};
+ghost use Rattle.theory.specs.Rows.{edge, tagged, body_keys, atom_keys};
 ghost use Rattle.theory.specs.Drive.{Follows, Drives};
 ghost use Rattle.area.specs.Layout.{Based};
-ghost use Rattle.adjacency.specs.Tables.{keys_of, items_of, rows_of, edgesOf, base_of, next_of, start_at, Tabled, Built};
+ghost use Rattle.adjacency.specs.Tables.{keys_of, items_of, rows_of, edges_of, base_of, next_of, start_at, Tabled, Built};
 ghost use Rattle.adjacency.specs.Building.{Building, Summed, sum_of};
 
 use adjacency::Table;
@@ -50,9 +50,9 @@ fn place_chain(
 
 // A node's edge to the atom that it names.
 fn place_atom(graph: &[u32], part: &mut [u32], rows: usize, filling: bool, n: usize)
-    requires accepted { Accepted edition2 graph.now × (n < (theoryOf graph.now).nodes) }
-    requires follows { Follows (Building 4294967296 filling rows) part.old 0 (tagged n (atomKeys (theoryOf graph.now) ((theoryOf graph.now).kind n) n)) }
-    ensures { Drives (Building 4294967296 filling rows) 0 part.old 0 (tagged n (atomKeys (theoryOf graph.now) ((theoryOf graph.now).kind n) n)) part.new 0 [] }
+    requires accepted { Accepted edition2 graph.now × (n < (theory_of graph.now).nodes) }
+    requires follows { Follows (Building 4294967296 filling rows) part.old 0 (tagged n (atom_keys (theory_of graph.now) ((theory_of graph.now).kind n) n)) }
+    ensures { Drives (Building 4294967296 filling rows) 0 part.old 0 (tagged n (atom_keys (theory_of graph.now) ((theory_of graph.now).kind n) n)) part.new 0 [] }
 {
     if graph32::kind(graph, n) == 1 {
         place(part, rows, filling, graph32::operand(graph, n), n);
@@ -62,9 +62,9 @@ fn place_atom(graph: &[u32], part: &mut [u32], rows: usize, filling: bool, n: us
 
 // A producer's edge to its body.
 fn place_body(graph: &[u32], part: &mut [u32], rows: usize, filling: bool, p: usize)
-    requires accepted { Accepted edition2 graph.now × (p < (theoryOf graph.now).producers) }
-    requires follows { Follows (Building 4294967296 filling rows) part.old 0 (tagged p (bodyKeys ((theoryOf graph.now).body p))) }
-    ensures { Drives (Building 4294967296 filling rows) 0 part.old 0 (tagged p (bodyKeys ((theoryOf graph.now).body p))) part.new 0 [] }
+    requires accepted { Accepted edition2 graph.now × (p < (theory_of graph.now).producers) }
+    requires follows { Follows (Building 4294967296 filling rows) part.old 0 (tagged p (body_keys ((theory_of graph.now).body p))) }
+    ensures { Drives (Building 4294967296 filling rows) 0 part.old 0 (tagged p (body_keys ((theory_of graph.now).body p))) part.new 0 [] }
 {
     let body = graph32::body(graph, p);
     if body > 0 {
@@ -75,9 +75,9 @@ fn place_body(graph: &[u32], part: &mut [u32], rows: usize, filling: bool, p: us
 
 // An item's edges.
 fn place_item(graph: &[u32], part: &mut [u32], rows: usize, filling: bool, table: Table, i: usize)
-    requires accepted { Accepted edition2 graph.now × (i < items_of (theoryOf graph.now) table) }
-    requires follows { Follows (Building 4294967296 filling rows) part.old 0 (tagged i (keys_of (theoryOf graph.now) table i)) }
-    ensures { Drives (Building 4294967296 filling rows) 0 part.old 0 (tagged i (keys_of (theoryOf graph.now) table i)) part.new 0 [] }
+    requires accepted { Accepted edition2 graph.now × (i < items_of (theory_of graph.now) table) }
+    requires follows { Follows (Building 4294967296 filling rows) part.old 0 (tagged i (keys_of (theory_of graph.now) table i)) }
+    ensures { Drives (Building 4294967296 filling rows) 0 part.old 0 (tagged i (keys_of (theory_of graph.now) table i)) part.new 0 [] }
 {
     match table {
         Table::AtomNodes => place_atom(graph, part, rows, filling, i),
@@ -90,7 +90,7 @@ fn place_item(graph: &[u32], part: &mut [u32], rows: usize, filling: bool, table
 // How many items a table has.
 fn items(graph: &[u32], table: Table) -> usize
     requires { Accepted edition2 graph.now }
-    ensures { result ≡ items_of (theoryOf graph.now) table }
+    ensures { result ≡ items_of (theory_of graph.now) table }
 {
     match table {
         Table::AtomNodes => graph32::nodes(graph),
@@ -103,7 +103,7 @@ fn items(graph: &[u32], table: Table) -> usize
 // How many rows.
 fn rows_in(graph: &[u32], table: Table) -> usize
     requires { Accepted edition2 graph.now }
-    ensures { result ≡ rows_of (theoryOf graph.now) table }
+    ensures { result ≡ rows_of (theory_of graph.now) table }
 {
     match table {
         Table::AtomNodes => graph32::atoms(graph),
@@ -116,8 +116,8 @@ fn rows_in(graph: &[u32], table: Table) -> usize
 // Every edge, item by item.
 fn place_all(graph: &[u32], part: &mut [u32], rows: usize, filling: bool, table: Table)
     requires accepted { Accepted edition2 graph.now }
-    requires follows { Follows (Building 4294967296 filling rows) part.old 0 (edgesOf (theoryOf graph.now) table) }
-    ensures { Drives (Building 4294967296 filling rows) 0 part.old 0 (edgesOf (theoryOf graph.now) table) part.new 0 [] }
+    requires follows { Follows (Building 4294967296 filling rows) part.old 0 (edges_of (theory_of graph.now) table) }
+    ensures { Drives (Building 4294967296 filling rows) 0 part.old 0 (edges_of (theory_of graph.now) table) part.new 0 [] }
 {
     let n = items(graph, table);
     let mut i: usize = 0;
@@ -144,8 +144,8 @@ fn sum(part: &mut [u32], rows: usize)
 
 // A table in the lent part: row r is the entries of the edges in row r, in stream order.
 fn build(graph: &[u32], part: &mut [u32], table: Table)
-    requires { Accepted edition2 graph.now × (rows_of (theoryOf graph.now) table + 1 + length (edgesOf (theoryOf graph.now) table) ≤ length part.old) }
-    ensures { Tabled (length part.old) part.new 0 (rows_of (theoryOf graph.now) table) (edgesOf (theoryOf graph.now) table) }
+    requires { Accepted edition2 graph.now × (rows_of (theory_of graph.now) table + 1 + length (edges_of (theory_of graph.now) table) ≤ length part.old) }
+    ensures { Tabled (length part.old) part.new 0 (rows_of (theory_of graph.now) table) (edges_of (theory_of graph.now) table) }
 {
     let rows = rows_in(graph, table);
     area32::clear(&mut part[..rows + 1]);
@@ -180,7 +180,7 @@ fn next(b: Bases, table: Table) -> usize
 // A table in its part of the work area.
 pub fn build_in(graph: &[u32], work: &mut [u32], b: Bases, table: Table)
     requires { Accepted edition2 graph.now × Based graph.now (length work.old) b }
-    ensures { Built (theoryOf graph.now) b table work.old work.new }
+    ensures { Built (theory_of graph.now) b table work.old work.new }
 {
     let from = base(b, table);
     let to = next(b, table);

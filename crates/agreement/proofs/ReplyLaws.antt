@@ -12,13 +12,13 @@ use Rattle.theory.specs.Sets.{Mem}
 use Rattle.theory.proofs.SetLaws.{clash}
 use Rattle.refusals.specs.Answer.{Answer, refuse}
 use Rattle.abi.specs.Codes.{code_of, Tells}
-use Rattle.report.specs.Report.{reportText, Reported}
-use Rattle.agreement.specs.Agreement.{rightPlaces, rightOutput, rightWork, Agrees, ProgramAgrees}
+use Rattle.report.specs.Report.{report_text, Reported}
+use Rattle.agreement.specs.Agreement.{right_places, right_output, right_work, Agrees, ProgramAgrees}
 use Rattle.agreement.proofs.CompareLaws.{no}
 
 -- a code that is equal to that of number and place tells the same answer
-pub check-says : (a : Answer) {n p x y : ℕ} → Tells 65536 a x → y ≡ code_of 65536 (refuse n p) → p < 65536 → (eqb x y ≡ true) ↔ (a ≡ refuse n p)
-check-says a {n} {p} {x} {y} t e l = (λ h. same (eqb-true x y h), λ h. eq-eqb x y (t.0 ∙ ap (λ (b : Answer). code_of 65536 b) h ∙ sym e))
+pub check_says : (a : Answer) {n p x y : ℕ} → Tells 65536 a x → y ≡ code_of 65536 (refuse n p) → p < 65536 → (eqb x y ≡ true) ↔ (a ≡ refuse n p)
+check_says a {n} {p} {x} {y} t e l = (λ h. same (eqb-true x y h), λ h. eq-eqb x y (t.0 ∙ ap (λ (b : Answer). code_of 65536 b) h ∙ sym e))
   where
     same : x ≡ y → a ≡ refuse n p
     same q =
@@ -27,11 +27,11 @@ check-says a {n} {p} {x} {y} t e l = (λ h. same (eqb-true x y h), λ h. eq-eqb 
         ap (λ (m : ℕ). refuse m a.place) number_same ∙ ap (λ (m : ℕ). refuse n m) place_same
 
 -- two parts, of which one says no, or the first is right
-pub first-no : {A B : Type 0} → (A → ⊥) → (false ≡ true) ↔ (A × B)
-first-no h = no (λ p. h p.0)
+pub first_no : {A B : Type 0} → (A → ⊥) → (false ≡ true) ↔ (A × B)
+first_no h = no (λ p. h p.0)
 
-pub second-says : {A B : Type 0} {b : Bool} → A → (b ≡ true) ↔ B → (b ≡ true) ↔ (A × B)
-second-says a h = (λ t. (a, h.0 t), λ p. h.1 p.1)
+pub second_says : {A B : Type 0} {b : Bool} → A → (b ≡ true) ↔ B → (b ≡ true) ↔ (A × B)
+second_says a h = (λ t. (a, h.0 t), λ p. h.1 p.1)
 
 -- what a part was asked, by its reply
 pub holds : {A : Type 0} {b : Bool} → (b ≡ true) ↔ A → not b ≡ false → A
@@ -42,24 +42,24 @@ fails : {A : Type 0} {b : Bool} → (b ≡ true) ↔ A → not b ≡ true → A 
 fails h e a = clash e (rw (h.1 a) refl)
 
 module _ {number code : ℕ} {places words output work : List ℕ} where
-  pub number-no : (code / 65536 ≡ number → ⊥) → (false ≡ true) ↔ Agrees number places words code output work
-  number-no h = no (λ a. h a.number-right)
+  pub number_no : (code / 65536 ≡ number → ⊥) → (false ≡ true) ↔ Agrees number places words code output work
+  number_no h = no (λ a. h a.number_right)
 
-  pub place-no : {b : Bool} → (b ≡ true) ↔ Mem (code % 65536) (rightPlaces number places) → not b ≡ true
+  pub place_no : {b : Bool} → (b ≡ true) ↔ Mem (code % 65536) (right_places number places) → not b ≡ true
       → (false ≡ true) ↔ Agrees number places words code output work
-  place-no h e = no (λ a. fails h e a.place-right)
+  place_no h e = no (λ a. fails h e a.place_right)
 
-  pub output-no : {b : Bool} → (b ≡ true) ↔ (output ≡ rightOutput number words (length output)) → not b ≡ true
+  pub output_no : {b : Bool} → (b ≡ true) ↔ (output ≡ right_output number words (length output)) → not b ≡ true
       → (false ≡ true) ↔ Agrees number places words code output work
-  output-no h e = no (λ a. fails h e a.output-right)
+  output_no h e = no (λ a. fails h e a.output_right)
 
-  pub work-says : {b : Bool} → code / 65536 ≡ number → Mem (code % 65536) (rightPlaces number places)
-      → output ≡ rightOutput number words (length output) → (b ≡ true) ↔ (work ≡ rightWork number (length work))
+  pub work_says : {b : Bool} → code / 65536 ≡ number → Mem (code % 65536) (right_places number places)
+      → output ≡ right_output number words (length output) → (b ≡ true) ↔ (work ≡ right_work number (length work))
       → (b ≡ true) ↔ Agrees number places words code output work
-  work-says n p o h =
-      (λ t. record { number-right = n; place-right = p; output-right = o; work-right = h.0 t }, λ a. h.1 a.work-right)
+  work_says n p o h =
+      (λ t. record { number_right = n; place_right = p; output_right = o; work_right = h.0 t }, λ a. h.1 a.work_right)
 
 -- the program's text
-pub program-says : {input old out text : List ℕ} {n : ℕ} {b : Bool} → Reported input old out n → (b ≡ true) ↔ (take n out ≡ text) → ProgramAgrees input text b
-unfolding reportText
-program-says p h = record { place = p.place; absorbed = p.absorbed; told = rw p.text at h }
+pub program_says : {input old out text : List ℕ} {n : ℕ} {b : Bool} → Reported input old out n → (b ≡ true) ↔ (take n out ≡ text) → ProgramAgrees input text b
+unfolding report_text
+program_says p h = record { place = p.place; absorbed = p.absorbed; told = rw p.text at h }

@@ -1,55 +1,55 @@
 -- When a call agrees with what is recorded of it. Output and work area are soiled before a call, so that a word left alone or wrongly cleared shows.
 use Rattle.std.specs.Prelude.{◌≡◌, Bool, true, ◌||◌, cond, List, [], ◌∷◌, ◌↔◌, ℕ, ◌/◌, ◌%◌, eqb, length, replicate}
 use Rattle.theory.specs.Sets.{Mem}
-use Rattle.theory.specs.Words.{theoryOf}
+use Rattle.theory.specs.Words.{theory_of}
 use Rattle.theory.specs.Accepted.{edition1}
-use Rattle.theory.specs.Cases.{absorbedIn}
+use Rattle.theory.specs.Cases.{absorbed_in}
 use Rattle.refusals.specs.Answer.{refuse}
-use Rattle.refusals.specs.Refusals.{graphAnswer}
-use Rattle.input.specs.Input.{graph_of, masksOf}
-use Rattle.report.specs.Report.{answer as programAnswer, reportText}
+use Rattle.refusals.specs.Refusals.{graph_answer}
+use Rattle.input.specs.Input.{graph_of, masks_of}
+use Rattle.report.specs.Report.{answer as program_answer, report_text}
 use Rattle.abi.specs.Codes.{code_of, Needed, PreparedAs, CompletedAs}
 
 -- n words of a soiled work area, and of a soiled output
 abbrev pub soiled : ℕ → List ℕ
 soiled n = replicate n 21845
 
-abbrev pub soiledWide : ℕ → List ℕ
-soiledWide n = replicate n 6148914691236517205
+abbrev pub soiled_wide : ℕ → List ℕ
+soiled_wide n = replicate n 6148914691236517205
 
 -- the places that are right: 0 after success, and after a refusal those that are listed
-abbrev pub rightPlaces : (number : ℕ) → List ℕ → List ℕ
-rightPlaces number places = cond (eqb number 0) (0 ∷ []) places
+abbrev pub right_places : (number : ℕ) → List ℕ → List ℕ
+right_places number places = cond (eqb number 0) (0 ∷ []) places
 
 -- the output of k words that is right: the recorded words after success, and after a refusal soil
-abbrev pub rightOutput : (number : ℕ) → List ℕ → ℕ → List ℕ
-rightOutput number words k = cond (eqb number 0) words (soiledWide k)
+abbrev pub right_output : (number : ℕ) → List ℕ → ℕ → List ℕ
+right_output number words k = cond (eqb number 0) words (soiled_wide k)
 
 -- the work area of n words that is right: cleared after success and after 12, and else soil
-abbrev pub rightWork : (number n : ℕ) → List ℕ
-rightWork number n = cond (eqb number 0 || eqb number 12) (replicate n 0) (soiled n)
+abbrev pub right_work : (number n : ℕ) → List ℕ
+right_work number n = cond (eqb number 0 || eqb number 12) (replicate n 0) (soiled n)
 
 -- an answer's code and what the call left, beside what is recorded: number, places and words
 pub record Agrees (number : ℕ) (places words : List ℕ) (code : ℕ) (output work : List ℕ) : Type 0 where
-  pub number-right : code / 65536 ≡ number
-  pub place-right : Mem (code % 65536) (rightPlaces number places)
-  pub output-right : output ≡ rightOutput number words (length output)
-  pub work-right : work ≡ rightWork number (length work)
+  pub number_right : code / 65536 ≡ number
+  pub place_right : Mem (code % 65536) (right_places number places)
+  pub output_right : output ≡ right_output number words (length output)
+  pub work_right : work ≡ right_work number (length work)
 
 -- the loop test's number: the recorded reply, or the recorded refusal
-abbrev pub neededCode : (number place reply : ℕ) → ℕ
-neededCode number place reply = cond (eqb number 0) reply (code_of 65536 (refuse number place))
+abbrev pub needed_code : (number place reply : ℕ) → ℕ
+needed_code number place reply = cond (eqb number 0) reply (code_of 65536 (refuse number place))
 
 -- What each comparison promises of its reply r. The graph check: r is yes exactly if number and place are those of the graph.
 abbrev pub CheckAgrees : (graph : List ℕ) (number place : ℕ) → Bool → Type 0
-CheckAgrees graph number place r = (r ≡ true) ↔ (graphAnswer edition1 graph ≡ refuse number place)
+CheckAgrees graph number place r = (r ≡ true) ↔ (graph_answer edition1 graph ≡ refuse number place)
 
 -- the loop test over a soiled work area of n words
 pub record NeededAgrees (graph : List ℕ) (n number place reply : ℕ) (r : Bool) : Type 0 where
   pub code : ℕ
   pub work : List ℕ
   pub promised : Needed 65536 edition1 graph (soiled n) work code
-  pub told : (r ≡ true) ↔ ((code ≡ neededCode number place reply) × (work ≡ rightWork number (length work)))
+  pub told : (r ≡ true) ↔ ((code ≡ needed_code number place reply) × (work ≡ right_work number (length work)))
 
 -- a call that promises this of the output and the work area that it leaves and of its code
 pub record OutcomeAgrees (Promised : (output work : List ℕ) (code : ℕ) → Type 0) (number : ℕ) (places words : List ℕ) (r : Bool) : Type 0 where
@@ -61,13 +61,13 @@ pub record OutcomeAgrees (Promised : (output work : List ℕ) (code : ℕ) → T
 
 -- preparation and pass over a soiled output of k words and a soiled work area of n words
 abbrev pub PrepareAgrees : (graph : List ℕ) (k n number : ℕ) (places words : List ℕ) → Bool → Type 0
-PrepareAgrees graph k n = OutcomeAgrees (PreparedAs 65536 edition1 graph (soiledWide k) (soiled n))
+PrepareAgrees graph k n = OutcomeAgrees (PreparedAs 65536 edition1 graph (soiled_wide k) (soiled n))
 
-abbrev pub CompleteAgrees : (graph never atomNever : List ℕ) (k n number : ℕ) (places words : List ℕ) → Bool → Type 0
-CompleteAgrees graph never atomNever k n = OutcomeAgrees (CompletedAs 65536 edition1 graph never atomNever (soiledWide k) (soiled n))
+abbrev pub CompleteAgrees : (graph never atom_never : List ℕ) (k n number : ℕ) (places words : List ℕ) → Bool → Type 0
+CompleteAgrees graph never atom_never k n = OutcomeAgrees (CompletedAs 65536 edition1 graph never atom_never (soiled_wide k) (soiled n))
 
 -- the program's text; the place of a 12 is free as in the program's promise
 pub record ProgramAgrees (input text : List ℕ) (r : Bool) : Type 0 where
   pub place : ℕ
-  pub absorbed : (programAnswer (graph_of input) (masksOf input) place).number ≡ 12 → Mem place (absorbedIn (theoryOf (graph_of input)))
-  pub told : (r ≡ true) ↔ (reportText input place ≡ text)
+  pub absorbed : (program_answer (graph_of input) (masks_of input) place).number ≡ 12 → Mem place (absorbed_in (theory_of (graph_of input)))
+  pub told : (r ≡ true) ↔ (report_text input place ≡ text)

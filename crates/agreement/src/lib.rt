@@ -5,7 +5,7 @@ ghost use Rattle.std.specs.Prelude.{◌≡◌, true, ◌↔◌, length};
 ghost use Rattle.theory.specs.Sets.{Mem};
 ghost use Rattle.refusals.specs.Answer.{refuse};
 ghost use Rattle.abi.specs.Codes.{code_of};
-ghost use Rattle.agreement.specs.Agreement.{rightPlaces, rightOutput, rightWork, Agrees, neededCode, CheckAgrees, NeededAgrees, PrepareAgrees, CompleteAgrees, ProgramAgrees};
+ghost use Rattle.agreement.specs.Agreement.{right_places, right_output, right_work, Agrees, needed_code, CheckAgrees, NeededAgrees, PrepareAgrees, CompleteAgrees, ProgramAgrees};
 
 const SOIL: u16 = 21845;
 
@@ -19,7 +19,7 @@ fn code(number: u16, place: u16) -> u32
 }
 
 fn needed_code(number: u16, place: u16, reply: u16) -> u32
-    ensures { result ≡ neededCode number place reply }
+    ensures { result ≡ needed_code number place reply }
 {
     if number == 0 {
         return reply as u32;
@@ -28,7 +28,7 @@ fn needed_code(number: u16, place: u16, reply: u16) -> u32
 }
 
 fn place_agrees(number: u16, places: &[u16], place: u16) -> bool
-    ensures { (result ≡ true) ↔ Mem place (rightPlaces number places.now) }
+    ensures { (result ≡ true) ↔ Mem place (right_places number places.now) }
 {
     if number == 0 {
         return memory::among(&[0u16; 1], place);
@@ -37,7 +37,7 @@ fn place_agrees(number: u16, places: &[u16], place: u16) -> bool
 }
 
 fn output_agrees(number: u16, words: &[u64], output: &[u64]) -> bool
-    ensures { (result ≡ true) ↔ (output.now ≡ rightOutput number words.now (length output.now)) }
+    ensures { (result ≡ true) ↔ (output.now ≡ right_output number words.now (length output.now)) }
 {
     if number == 0 {
         return memory::same_wide(output, words);
@@ -46,7 +46,7 @@ fn output_agrees(number: u16, words: &[u64], output: &[u64]) -> bool
 }
 
 fn work_agrees(number: u16, work: &[u16]) -> bool
-    ensures { (result ≡ true) ↔ (work.now ≡ rightWork number (length work.now)) }
+    ensures { (result ≡ true) ↔ (work.now ≡ right_work number (length work.now)) }
 {
     if number == 0 {
         return memory::all_are(work, 0);

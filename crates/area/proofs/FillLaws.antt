@@ -4,7 +4,7 @@ use mathlib.Core.List.{List, ◌++◌}
 use Prim.Native.Nat.{ℕ, ◌+◌, ◌-◌, ◌≤◌, ◌<◌}
 use native.Mathlib.Omega.{arith}
 use lib.ListN.{length, get_or, take, drop, replicate, length-replicate, get_or-replicate, length-take, length-drop}
-use Rattle.area.proofs.PartLaws.{part_length, part-before, part-after, part_at}
+use Rattle.area.proofs.PartLaws.{part_length, part_before, part_after, part_at}
 
 -- from a to e every word of w' is x, and elsewhere it is that of w
 pub record Filled (a e x : ℕ) (w w' : List ℕ) : Type 0 where
@@ -16,14 +16,14 @@ pub record Filled (a e x : ℕ) (w w' : List ℕ) : Type 0 where
 pub filled : {a e x : ℕ} {w p : List ℕ} → (a ≤ e) × (e ≤ length w) → p ≡ replicate (length (take (e - a) (drop a w))) x → Filled a e x w (take a w ++ (p ++ drop (e - a) (drop a w)))
 filled {a} {e} {x} {w} {p} (h, k) same = record {
   size = part_length a e w p h k long;
-  before = part-before a e w p h k long;
+  before = part_before a e w p h k long;
   at = λ i l u.
       let j : a + (i - a) ≡ i = omega arith in
       ap (λ (n : ℕ). get_or (take a w ++ (p ++ drop (e - a) (drop a w))) n 0) (sym j)
       ∙ part_at a e w p h k long (i - a) (let z = long in omega arith)
       ∙ ap (λ (l : List ℕ). get_or l (i - a) 0) same
       ∙ get_or-replicate (length (take (e - a) (drop a w))) (i - a) x 0 (rw part (omega arith));
-  after = part-after a e w p h k long e (omega arith);
+  after = part_after a e w p h k long e (omega arith);
 }
   where
     part : length (take (e - a) (drop a w)) ≡ e - a

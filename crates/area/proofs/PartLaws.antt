@@ -13,11 +13,11 @@ module _ (a e : ℕ) (w p : List ℕ) (h : a ≤ e) (k : e ≤ length w) (size :
   pub part_length : length (take a w ++ (p ++ drop (e - a) (drop a w))) ≡ length w
   part_length = simp (length-append, length-take, length-drop) (omega arith)
 
-  pub part-before : take a (take a w ++ (p ++ drop (e - a) (drop a w))) ≡ take a w
-  part-before = take_at (take a w) (p ++ drop (e - a) (drop a w)) a front
+  pub part_before : take a (take a w ++ (p ++ drop (e - a) (drop a w))) ≡ take a w
+  part_before = take_at (take a w) (p ++ drop (e - a) (drop a w)) a front
 
-  pub part-after : (n : ℕ) → e ≤ n → drop n (take a w ++ (p ++ drop (e - a) (drop a w))) ≡ drop n w
-  part-after n l =
+  pub part_after : (n : ℕ) → e ≤ n → drop n (take a w ++ (p ++ drop (e - a) (drop a w))) ≡ drop n w
+  part_after n l =
       let f = front in
       let i : length (take a w ++ p) ≡ e = simp length-append (omega arith) in
       let j : e + (n - e) ≡ n = omega arith in
@@ -46,16 +46,16 @@ module _ (n : ℕ) (w w' : List ℕ) (e : take n w' ≡ take n w) where
   pub frame_at : (i : ℕ) → i < n → get_or w' i 0 ≡ get_or w i 0
   frame_at i h = sym (get_or-take n w' i 0 h) ∙ ap (λ (l : List ℕ). get_or l i 0) e ∙ get_or-take n w i 0 h
 
-  pub frame-less : (m : ℕ) → m ≤ n → take m w' ≡ take m w
-  frame-less m h = sym (take-take m n w' h) ∙ ap (take m) e ∙ take-take m n w h
+  pub frame_less : (m : ℕ) → m ≤ n → take m w' ≡ take m w
+  frame_less m h = sym (take-take m n w' h) ∙ ap (take m) e ∙ take-take m n w h
 
-  pub frame-slice : (f t : ℕ) → t ≤ n → slice f t w' ≡ slice f t w
-  frame-slice f t h = ap (drop f) (frame-less t h)
+  pub frame_slice : (f t : ℕ) → t ≤ n → slice f t w' ≡ slice f t w
+  frame_slice f t h = ap (drop f) (frame_less t h)
 
 -- the words from m on are the same
 module _ (m : ℕ) (w w' : List ℕ) (e : drop m w' ≡ drop m w) where
   pub behind_more : (k : ℕ) → m ≤ k → drop k w' ≡ drop k w
   behind_more k h = let q : m + (k - m) ≡ k = omega arith in rw (sym q, ← drop-drop (k - m) m w', ← drop-drop (k - m) m w, e) refl
 
-  pub behind-at : (i : ℕ) → m ≤ i → get_or w' i 0 ≡ get_or w i 0
-  behind-at i h = let q : m + (i - m) ≡ i = omega arith in rw (sym q, ← get_or-drop m w' (i - m) 0, ← get_or-drop m w (i - m) 0, e) refl
+  pub behind_at : (i : ℕ) → m ≤ i → get_or w' i 0 ≡ get_or w i 0
+  behind_at i h = let q : m + (i - m) ≡ i = omega arith in rw (sym q, ← get_or-drop m w' (i - m) 0, ← get_or-drop m w (i - m) 0, e) refl

@@ -6,21 +6,21 @@ use Rattle.area.specs.declared.Bases.{Bases}
 abbrev pub mark_of : Bases → ℕ → ℕ
 mark_of b v = b.states + v
 
-abbrev pub markIn : Bases → List ℕ → ℕ → ℕ
-markIn b w v = get_or w (mark_of b v) 0
+abbrev pub mark_in : Bases → List ℕ → ℕ → ℕ
+mark_in b w v = get_or w (mark_of b v) 0
 
 -- what vertex v waits for
-abbrev pub countAt : Bases → List ℕ → ℕ → ℕ
-countAt b w v = get_or w (b.dependencies + v) 0
+abbrev pub count_at : Bases → List ℕ → ℕ → ℕ
+count_at b w v = get_or w (b.dependencies + v) 0
 
 -- 1 for a cyclic atom
-abbrev pub flagAt : Bases → List ℕ → ℕ → ℕ
-flagAt b w a = get_or w (b.cyclic_atoms + a) 0
+abbrev pub flag_at : Bases → List ℕ → ℕ → ℕ
+flag_at b w a = get_or w (b.cyclic_atoms + a) 0
 
 -- the first n vertices on the queue, the last one first
 abbrev pub queued : Bases → List ℕ → ℕ → List ℕ
 queued b w n = upto n (drop b.queue w)
 
 -- nodes as vertices
-abbrev pub asVertices : Bases → List ℕ → List ℕ
-asVertices b nodes = map (λ n. b.atoms + n) nodes
+abbrev pub as_vertices : Bases → List ℕ → List ℕ
+as_vertices b nodes = map (λ n. b.atoms + n) nodes

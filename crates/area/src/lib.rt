@@ -3,7 +3,7 @@ pub mod length;
 
 ghost use Rattle.std.specs.Prelude.{◌≡◌, true, ◌<◌, ◌≤◌, ◌^◌, length, set, replicate};
 ghost use Rattle.theory.specs.Accepted.{Accepted, edition1};
-ghost use Rattle.area.specs.Layout.{wordsFor, LaidOut, Roomy, Based};
+ghost use Rattle.area.specs.Layout.{words_for, LaidOut, Roomy, Based};
 
 pub fn put(words: &mut [u16], i: usize, x: usize)
     requires { (i < length words.old) × (x < 65536) }
@@ -96,7 +96,7 @@ pub fn lay_out(
     leaf_entries: usize,
     head_entries: usize,
 ) -> Bases
-    requires { wordsFor atoms nodes producers leaf_entries head_entries < 2 ^ 64 }
+    requires { words_for atoms nodes producers leaf_entries head_entries < 2 ^ 64 }
     ensures { LaidOut atoms nodes producers leaf_entries head_entries result }
 {
     let parents = atoms + 1 + nodes;

@@ -1,11 +1,11 @@
 // How long the work area is (refusal 11): in edition 2 it depends on the graph's counts and on its entries, which are counted here.
 ghost use Rattle.std.specs.Prelude.{◌≡◌};
-ghost use Rattle.theory.specs.Words.{theoryOf};
-ghost use Rattle.theory.specs.Accepted.{Accepted, edition2, leafEntries, headEntries, areaOf};
+ghost use Rattle.theory.specs.Words.{theory_of};
+ghost use Rattle.theory.specs.Accepted.{Accepted, edition2, leaf_entries, head_entries, area_of};
 
 fn leaf_entries(graph: &[u32]) -> usize
     requires { Accepted edition2 graph.now }
-    ensures { result ≡ leafEntries (theoryOf graph.now) }
+    ensures { result ≡ leaf_entries (theory_of graph.now) }
 {
     let end = graph32::nodes(graph);
     let mut total: usize = 0;
@@ -19,7 +19,7 @@ fn leaf_entries(graph: &[u32]) -> usize
 
 fn head_entries(graph: &[u32]) -> usize
     requires { Accepted edition2 graph.now }
-    ensures { result ≡ headEntries (theoryOf graph.now) }
+    ensures { result ≡ head_entries (theory_of graph.now) }
 {
     let end = graph32::producers(graph);
     let mut total: usize = 0;
@@ -33,7 +33,7 @@ fn head_entries(graph: &[u32]) -> usize
 
 pub fn words(graph: &[u32]) -> usize
     requires { Accepted edition2 graph.now }
-    ensures { result ≡ areaOf edition2 (theoryOf graph.now) }
+    ensures { result ≡ area_of edition2 (theory_of graph.now) }
 {
     let size = graph32::atoms(graph) + graph32::nodes(graph) + graph32::producers(graph);
     16 * (size + 1) + 4 * (leaf_entries(graph) + head_entries(graph))

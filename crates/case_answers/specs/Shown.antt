@@ -8,7 +8,7 @@ use Rattle.theory.specs.Cases.{Outcome, lists, refused, Case}
 use Rattle.mask.specs.Mask.{words_of}
 use Rattle.refusals.specs.Answer.{Answer, accept}
 use Rattle.cycles.specs.Outcome.{loops, outcome}
-use Rattle.founded.specs.Answers.{completedOf, Completes}
+use Rattle.founded.specs.Answers.{completed_of, Completes}
 use Rattle.founded.specs.declared.Completed.{Completed}
 
 -- an outcome, of an answer and of the output before and after it: success with that list in the output's bits, or that number at one of the places with the
@@ -27,7 +27,7 @@ LoopTest c = (work : List ℕ) → length work ≡ 32768 → outcome edition1 (l
 abbrev pub Pass : Case → Type 0
 Pass c =
     (output work output' work' : List ℕ) (r : Completed) → length output ≡ words_of (get_or (lent c) 1 0) → length work ≡ 32768
-    → Completes edition1 (lent c) c.never c.atomNever output work output' work' r → Shows c.result (get_or (lent c) 1 0) (completedOf r) output output'
+    → Completes edition1 (lent c) c.never c.atom_never output work output' work' r → Shows c.result (get_or (lent c) 1 0) (completed_of r) output output'
 
 -- both calls give the row's outcome
 unfoldable pub Shown : Case → Type 0

@@ -9,82 +9,82 @@ use native.Mathlib.Omega.{arith}
 use borrow.Author.Tests.{le-leb, lt-leb}
 use lib.Dec.{leb}
 use lib.ListN.{length, get_or}
-use Rattle.theory.specs.Sets.{any, sumBelow}
+use Rattle.theory.specs.Sets.{any, sum_below}
 use Rattle.theory.specs.Words.{value_of, next_of, chain}
-use Rattle.theory.specs.Links.{linkAfter, MeetsOnce, comesBack}
-use Rattle.theory.proofs.ChainLaws.{once-next, chain-end, chain-step, after-step, after_none, ends-clear, runs-back}
+use Rattle.theory.specs.Links.{link_after, MeetsOnce, comes_back}
+use Rattle.theory.proofs.ChainLaws.{once_next, chain_end, chain_step, after_step, after_none, ends_clear, runs_back}
 use Rattle.checking.specs.declared.Walk.TheVariants.{Bad, Total}
 use Rattle.refusals.specs.Search.{Clear}
 use Rattle.checking.specs.Walked.{Walked, wrong, fine}
-use Rattle.refusals.proofs.SearchLaws.{clear_none, clear-more, first_found, first-none}
+use Rattle.refusals.proofs.SearchLaws.{clear_none, clear_more, first_found, first_none}
 
 -- the chain of place n begins at link `first n`, and an entry of it is wrong unless it is below `limit n`
 module _ (ws : List ℕ) (limit first : ℕ → ℕ) where
   abbrev pub bad : ℕ → Bool
   bad n = any (leb (limit n)) (chain ws (first n))
 
-  abbrev pub entriesOf : ℕ → ℕ
-  entriesOf n = length (chain ws (first n))
+  abbrev pub entries_of : ℕ → ℕ
+  entries_of n = length (chain ws (first n))
 
   -- the places below n are done
   pub record Between (n entries : ℕ) : Type 0 where
     pub clear : Clear bad 0 n
-    pub counted : entries ≡ sumBelow n entriesOf
+    pub counted : entries ≡ sum_below n entries_of
 
   -- on the way along the chain of place n, at link l
   pub record Along (n entries l : ℕ) : Type 0 where
     pub once : MeetsOnce ws l
     pub same : any (leb (limit n)) (chain ws l) ≡ bad n
-    pub counted : entries + length (chain ws l) ≡ entriesOf n + sumBelow n entriesOf
+    pub counted : entries + length (chain ws l) ≡ entries_of n + sum_below n entries_of
 
 module _ {ws : List ℕ} {limit first : ℕ → ℕ} where
   pub between_none : Between ws limit first 0 0
-  unfolding sumBelow
+  unfolding sum_below
   between_none = record { clear = clear_none 0; counted = refl }
 
-  pub between-all : {n entries end : ℕ} → Between ws limit first n entries → n ≡ end
-      → Walked (bad ws limit first) end (sumBelow end (entriesOf ws limit first)) (Total entries)
-  between-all {n} {entries} b e =
-      subst (λ (m : ℕ). Walked (bad ws limit first) m (sumBelow m (entriesOf ws limit first)) (Total entries)) e (fine b.counted (first-none b.clear refl))
+  pub between_all : {n entries end : ℕ} → Between ws limit first n entries → n ≡ end
+      → Walked (bad ws limit first) end (sum_below end (entries_of ws limit first)) (Total entries)
+  between_all {n} {entries} b e =
+      subst (λ (m : ℕ). Walked (bad ws limit first) m (sum_below m (entries_of ws limit first)) (Total entries)) e (fine b.counted (first_none b.clear refl))
 
-  pub along-first : {n entries : ℕ} → Between ws limit first n entries → MeetsOnce ws (first n) → Along ws limit first n entries (first n)
-  along-first b e = record { once = e; same = refl; counted = let c = b.counted in omega arith }
+  pub along_first : {n entries : ℕ} → Between ws limit first n entries → MeetsOnce ws (first n) → Along ws limit first n entries (first n)
+  along_first b e = record { once = e; same = refl; counted = let c = b.counted in omega arith }
 
   module _ {n entries l : ℕ} (a : Along ws limit first n entries l) where
-    pub along-end : {before : ℕ} → Between ws limit first n before → l ≡ 0 → Between ws limit first (n + 1) entries
-    unfolding sumBelow any
-    along-end b z =
-        let e = ap (chain ws) z ∙ chain-end ws in
+    pub along_end : {before : ℕ} → Between ws limit first n before → l ≡ 0 → Between ws limit first (n + 1) entries
+    unfolding sum_below any
+    along_end b z =
+        let e = ap (chain ws) z ∙ chain_end ws in
         let h = ap length e in
         let c = a.counted in
-        record { clear = clear-more b.clear (sym a.same ∙ ap (any (leb (limit n))) e); counted = rw add-one (omega arith) }
+        record { clear = clear_more b.clear (sym a.same ∙ ap (any (leb (limit n))) e); counted = rw add-one (omega arith) }
 
     module _ (z : l ≡ 0 → ⊥) where
       -- v is what the link has
       step : {v : ℕ} → v ≡ value_of ws l → bad ws limit first n ≡ leb (limit n) v || any (leb (limit n)) (chain ws (next_of ws l))
       unfolding any
-      step e = sym a.same ∙ ap (any (leb (limit n))) (chain-step ws a.once z) ∙ rw e refl
+      step e = sym a.same ∙ ap (any (leb (limit n))) (chain_step ws a.once z) ∙ rw e refl
 
-      pub along-wrong : {v before end total : ℕ} → v ≡ value_of ws l → limit n ≤ v → Between ws limit first n before → n < end
+      pub along_wrong : {v before end total : ℕ} → v ≡ value_of ws l → limit n ≤ v → Between ws limit first n before → n < end
           → Walked (bad ws limit first) end total (Bad n)
-      along-wrong e h b k = wrong k (first_found b.clear k (step e ∙ rw (le-leb _ _ h) refl))
+      along_wrong e h b k = wrong k (first_found b.clear k (step e ∙ rw (le-leb _ _ h) refl))
 
-      pub along-next : {v : ℕ} → v ≡ value_of ws l → v < limit n → Along ws limit first n (entries + 1) (next_of ws l)
-      along-next e h =
-          let t = ap length (chain-step ws a.once z) in
+      pub along_next : {v : ℕ} → v ≡ value_of ws l → v < limit n → Along ws limit first n (entries + 1) (next_of ws l)
+      along_next e h =
+          let t = ap length (chain_step ws a.once z) in
           let c = a.counted in
-          record { once = once-next ws a.once z; same = sym (step e ∙ rw (lt-leb _ _ h) refl); counted = omega arith }
+          record { once = once_next ws a.once z; same = sym (step e ∙ rw (lt-leb _ _ h) refl); counted = omega arith }
 
       -- the count fits: each chain has at most `most` entries
-      pub along-few : (most : ℕ) → ((m : ℕ) → length (chain ws m) ≤ most) → entries < most + most * n
-      unfolding sumBelow
-      along-few most few =
-          let t = ap length (chain-step ws a.once z) in
+      pub along_few : (most : ℕ) → ((m : ℕ) → length (chain ws m) ≤ most) → entries < most + most * n
+      unfolding sum_below
+      along_few most few =
+          let t = ap length (chain_step ws a.once z) in
           let c = a.counted in
           let s = sum n in
           omega (arith, few (first n))
         where
-          sum : (k : ℕ) → sumBelow k (entriesOf ws limit first) ≤ most * k
+          sum : (k : ℕ) → sum_below k (entries_of ws limit first) ≤ most * k
           sum zero = omega arith
           sum (suc k) = let s = sum k in omega (arith, few (first k))
 
@@ -93,18 +93,18 @@ module _ {ws : List ℕ} {limit first : ℕ → ℕ} where
 -- `left` links after link l the chain is where it is after K
 pub record Toward (ws : List ℕ) (first left l : ℕ) : Type 0 where
   pub low : l ≤ get_or ws 4 0
-  pub same : linkAfter ws left l ≡ linkAfter ws (get_or ws 4 0) first
+  pub same : link_after ws left l ≡ link_after ws (get_or ws 4 0) first
 
-pub toward-first : {ws : List ℕ} {first left : ℕ} → first ≤ get_or ws 4 0 → left ≡ get_or ws 4 0 → Toward ws first left first
-toward-first {ws} {first} h e = record { low = h; same = ap (λ (k : ℕ). linkAfter ws k first) e }
+pub toward_first : {ws : List ℕ} {first left : ℕ} → first ≤ get_or ws 4 0 → left ≡ get_or ws 4 0 → Toward ws first left first
+toward_first {ws} {first} h e = record { low = h; same = ap (λ (k : ℕ). link_after ws k first) e }
 
 module _ {ws : List ℕ} {first left l : ℕ} (t : Toward ws first left l) where
-  pub toward-end : l ≡ 0 → comesBack ws first ≡ false
-  toward-end z = ends-clear ws first (sym t.same ∙ ap (linkAfter ws left) z ∙ after_none ws left)
+  pub toward_end : l ≡ 0 → comes_back ws first ≡ false
+  toward_end z = ends_clear ws first (sym t.same ∙ ap (link_after ws left) z ∙ after_none ws left)
 
-  pub toward-back : (l ≡ 0 → ⊥) → left ≡ 0 → comesBack ws first ≡ true
-  unfolding linkAfter
-  toward-back z e = runs-back ws first (λ q. z (sym (ap (λ (k : ℕ). linkAfter ws k l) e) ∙ t.same ∙ q))
+  pub toward_back : (l ≡ 0 → ⊥) → left ≡ 0 → comes_back ws first ≡ true
+  unfolding link_after
+  toward_back z e = runs_back ws first (λ q. z (sym (ap (λ (k : ℕ). link_after ws k l) e) ∙ t.same ∙ q))
 
-  pub toward-next : (l ≡ 0 → ⊥) → {rest m : ℕ} → rest + 1 ≡ left → m ≡ next_of ws l → next_of ws l ≤ get_or ws 4 0 → Toward ws first rest m
-  toward-next z {rest} {m} e n h = rw n (record { low = h; same = sym (after-step ws rest left l z e) ∙ t.same })
+  pub toward_next : (l ≡ 0 → ⊥) → {rest m : ℕ} → rest + 1 ≡ left → m ≡ next_of ws l → next_of ws l ≤ get_or ws 4 0 → Toward ws first rest m
+  toward_next z {rest} {m} e n h = rw n (record { low = h; same = sym (after_step ws rest left l z e) ∙ t.same })

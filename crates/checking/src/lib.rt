@@ -3,7 +3,7 @@ mod rows;
 
 ghost use Rattle.std.specs.Prelude.{◌≡◌};
 ghost use Rattle.theory.specs.Accepted.{edition1};
-ghost use Rattle.refusals.specs.Refusals.{graphAnswer, answer_of};
+ghost use Rattle.refusals.specs.Refusals.{graph_answer, answer_of};
 
 use refusals::Checked;
 
@@ -16,7 +16,7 @@ pub enum Walk {
 
 // The graph check: refusals 1 to 9 and 14, in the table's order.
 pub fn check(graph: &[u16]) -> Checked
-    ensures { answer_of result ≡ graphAnswer edition1 graph.now }
+    ensures { answer_of result ≡ graph_answer edition1 graph.now }
 {
     if refusals::bad_edition(graph) {
         return Checked::Edition;

@@ -1,13 +1,13 @@
 // Rows 14 and 7 to 9 of the graph check, and the check from row 4 on.
 ghost use Rattle.std.specs.Prelude.{◌≡◌, ◌+◌, ◌≤◌, get_or, drop};
-ghost use Rattle.theory.specs.Words.{theoryOf};
-ghost use Rattle.theory.specs.Links.{comesBack};
-ghost use Rattle.theory.specs.Accepted.{edition1, leafEntries, headEntries};
+ghost use Rattle.theory.specs.Words.{theory_of};
+ghost use Rattle.theory.specs.Links.{comes_back};
+ghost use Rattle.theory.specs.Accepted.{edition1, leaf_entries, head_entries};
 ghost use Rattle.refusals.specs.Passed.{Sized, Linked, Chained};
 ghost use Rattle.refusals.specs.Search.{Clear, First};
 ghost use Rattle.checking.specs.Walked.{Walked};
-ghost use Rattle.refusals.specs.Answer.{firstRefusal};
-ghost use Rattle.refusals.specs.Refusals.{badNode, badProducer, leavesBack, headsBack, badLeaves, badHeads, graphRows, answer_of};
+ghost use Rattle.refusals.specs.Answer.{first_refusal};
+ghost use Rattle.refusals.specs.Refusals.{bad_node, bad_producer, leaves_back, heads_back, bad_leaves, bad_heads, graph_rows, answer_of};
 
 use crate::Walk;
 use graph::{atoms, first_head, first_leaf, links, links_from, next, nodes, producers, value};
@@ -17,7 +17,7 @@ use refusals::{Checked, bad_link, bad_node, bad_producer, first_turn};
 // Row 14: a chain that is not at its end after K links comes back to one of its own.
 fn comes_back(graph: &[u16], first: usize) -> bool
     requires { Sized edition1 graph.now × Linked graph.now × (first ≤ get_or graph.now 4 0) }
-    ensures { result ≡ comesBack graph.now first }
+    ensures { result ≡ comes_back graph.now first }
 {
     let from = links_from(graph);
     let mut left = links(graph);
@@ -35,7 +35,7 @@ fn comes_back(graph: &[u16], first: usize) -> bool
 // The first node whose leaf chain does, or N.
 fn leaves_back(graph: &[u16]) -> usize
     requires { Sized edition1 graph.now × Linked graph.now }
-    ensures { First (leavesBack graph.now) 0 (get_or graph.now 2 0) result }
+    ensures { First (leaves_back graph.now) 0 (get_or graph.now 2 0) result }
 {
     let end = nodes(graph);
     let mut n = 0;
@@ -51,7 +51,7 @@ fn leaves_back(graph: &[u16]) -> usize
 // The first producer whose head chain does, or P.
 fn heads_back(graph: &[u16]) -> usize
     requires { Sized edition1 graph.now × Linked graph.now }
-    ensures { First (headsBack graph.now) 0 (get_or graph.now 3 0) result }
+    ensures { First (heads_back graph.now) 0 (get_or graph.now 3 0) result }
 {
     let end = producers(graph);
     let mut p = 0;
@@ -68,7 +68,7 @@ fn heads_back(graph: &[u16]) -> usize
 fn walk_leaves(graph: &[u16]) -> Walk
     requires sized { Sized edition1 graph.now }
     requires chained { Chained graph.now }
-    ensures { Walked (badLeaves graph.now) (get_or graph.now 2 0) (leafEntries (theoryOf graph.now)) result }
+    ensures { Walked (bad_leaves graph.now) (get_or graph.now 2 0) (leaf_entries (theory_of graph.now)) result }
 {
     let end = nodes(graph);
     let from = links_from(graph);
@@ -94,7 +94,7 @@ fn walk_leaves(graph: &[u16]) -> Walk
 fn walk_heads(graph: &[u16]) -> Walk
     requires sized { Sized edition1 graph.now }
     requires chained { Chained graph.now }
-    ensures { Walked (badHeads graph.now) (get_or graph.now 3 0) (headEntries (theoryOf graph.now)) result }
+    ensures { Walked (bad_heads graph.now) (get_or graph.now 3 0) (head_entries (theory_of graph.now)) result }
 {
     let end = producers(graph);
     let atoms = atoms(graph);
@@ -121,8 +121,8 @@ fn walk_heads(graph: &[u16]) -> Walk
 fn check_heads(graph: &[u16], leaves: usize) -> Checked
     requires sized { Sized edition1 graph.now }
     requires chained { Chained graph.now }
-    requires leaves_value { leaves ≡ leafEntries (theoryOf graph.now) }
-    ensures { answer_of result ≡ firstRefusal (drop 9 (graphRows edition1 graph.now)) }
+    requires leaves_value { leaves ≡ leaf_entries (theory_of graph.now) }
+    ensures { answer_of result ≡ first_refusal (drop 9 (graph_rows edition1 graph.now)) }
 {
     match walk_heads(graph) {
         Walk::Bad(p) => Checked::Head(p as u32),
@@ -142,7 +142,7 @@ fn check_heads(graph: &[u16], leaves: usize) -> Checked
 fn check_leaves(graph: &[u16]) -> Checked
     requires sized { Sized edition1 graph.now }
     requires chained { Chained graph.now }
-    ensures { answer_of result ≡ firstRefusal (drop 8 (graphRows edition1 graph.now)) }
+    ensures { answer_of result ≡ first_refusal (drop 8 (graph_rows edition1 graph.now)) }
 {
     match walk_leaves(graph) {
         Walk::Bad(n) => Checked::Leaf(n as u32),
@@ -154,7 +154,7 @@ fn check_leaves(graph: &[u16]) -> Checked
 fn check_chains(graph: &[u16]) -> Checked
     requires sized { Sized edition1 graph.now }
     requires linked { Linked graph.now }
-    ensures { answer_of result ≡ firstRefusal (drop 6 (graphRows edition1 graph.now)) }
+    ensures { answer_of result ≡ first_refusal (drop 6 (graph_rows edition1 graph.now)) }
 {
     let n = leaves_back(graph);
     if n < nodes(graph) {
@@ -170,8 +170,8 @@ fn check_chains(graph: &[u16]) -> Checked
 // Rows 6, 14 and 7 to 9. Where all links lead upward, rows 6 and 14 pass and no chain is followed for 14.
 fn check_links(graph: &[u16]) -> Checked
     requires sized { Sized edition1 graph.now }
-    requires clear { Clear (badNode graph.now) 0 (get_or graph.now 2 0) × Clear (badProducer graph.now) 0 (get_or graph.now 3 0) }
-    ensures { answer_of result ≡ firstRefusal (drop 5 (graphRows edition1 graph.now)) }
+    requires clear { Clear (bad_node graph.now) 0 (get_or graph.now 2 0) × Clear (bad_producer graph.now) 0 (get_or graph.now 3 0) }
+    ensures { answer_of result ≡ first_refusal (drop 5 (graph_rows edition1 graph.now)) }
 {
     let start = first_turn(graph);
     if links(graph) < start {
@@ -187,7 +187,7 @@ fn check_links(graph: &[u16]) -> Checked
 // Rows 4 to 9 and 14.
 pub fn check_records(graph: &[u16]) -> Checked
     requires { Sized edition1 graph.now }
-    ensures { answer_of result ≡ firstRefusal (drop 3 (graphRows edition1 graph.now)) }
+    ensures { answer_of result ≡ first_refusal (drop 3 (graph_rows edition1 graph.now)) }
 {
     let n = bad_node(graph);
     if n < nodes(graph) {

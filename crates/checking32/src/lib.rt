@@ -4,13 +4,13 @@ mod rows;
 
 ghost use Rattle.std.specs.Prelude.{◌≡◌};
 ghost use Rattle.theory.specs.Accepted.{edition2};
-ghost use Rattle.refusals.specs.Refusals.{graphAnswer, answer_of};
+ghost use Rattle.refusals.specs.Refusals.{graph_answer, answer_of};
 
 use refusals::Checked;
 
 // The graph check: refusals 1 to 9 and 14, in the table's order.
 pub fn check(graph: &[u32]) -> Checked
-    ensures { answer_of result ≡ graphAnswer edition2 graph.now }
+    ensures { answer_of result ≡ graph_answer edition2 graph.now }
 {
     if refusals32::bad_edition(graph) {
         return Checked::Edition;

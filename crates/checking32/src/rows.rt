@@ -1,14 +1,14 @@
 // Written by tools/widen from crates/checking/src/rows.rt: edit that one.
 // Rows 14 and 7 to 9 of the graph check, and the check from row 4 on.
 ghost use Rattle.std.specs.Prelude.{◌≡◌, ◌+◌, ◌≤◌, get_or, drop};
-ghost use Rattle.theory.specs.Words.{theoryOf};
-ghost use Rattle.theory.specs.Links.{comesBack};
-ghost use Rattle.theory.specs.Accepted.{edition2, leafEntries, headEntries};
+ghost use Rattle.theory.specs.Words.{theory_of};
+ghost use Rattle.theory.specs.Links.{comes_back};
+ghost use Rattle.theory.specs.Accepted.{edition2, leaf_entries, head_entries};
 ghost use Rattle.refusals.specs.Passed.{Sized, Linked, Chained};
 ghost use Rattle.refusals.specs.Search.{Clear, First};
 ghost use Rattle.checking.specs.Walked.{Walked};
-ghost use Rattle.refusals.specs.Answer.{firstRefusal};
-ghost use Rattle.refusals.specs.Refusals.{badNode, badProducer, leavesBack, headsBack, badLeaves, badHeads, graphRows, answer_of};
+ghost use Rattle.refusals.specs.Answer.{first_refusal};
+ghost use Rattle.refusals.specs.Refusals.{bad_node, bad_producer, leaves_back, heads_back, bad_leaves, bad_heads, graph_rows, answer_of};
 
 use checking::Walk;
 use graph32::{atoms, first_head, first_leaf, links, links_from, next, nodes, producers, value};
@@ -19,7 +19,7 @@ use refusals32::{bad_link, bad_node, bad_producer, first_turn};
 // Row 14: a chain that is not at its end after K links comes back to one of its own.
 fn comes_back(graph: &[u32], first: usize) -> bool
     requires { Sized edition2 graph.now × Linked graph.now × (first ≤ get_or graph.now 4 0) }
-    ensures { result ≡ comesBack graph.now first }
+    ensures { result ≡ comes_back graph.now first }
 {
     let from = links_from(graph);
     let mut left = links(graph);
@@ -37,7 +37,7 @@ fn comes_back(graph: &[u32], first: usize) -> bool
 // The first node whose leaf chain does, or N.
 fn leaves_back(graph: &[u32]) -> usize
     requires { Sized edition2 graph.now × Linked graph.now }
-    ensures { First (leavesBack graph.now) 0 (get_or graph.now 2 0) result }
+    ensures { First (leaves_back graph.now) 0 (get_or graph.now 2 0) result }
 {
     let end = nodes(graph);
     let mut n = 0;
@@ -53,7 +53,7 @@ fn leaves_back(graph: &[u32]) -> usize
 // The first producer whose head chain does, or P.
 fn heads_back(graph: &[u32]) -> usize
     requires { Sized edition2 graph.now × Linked graph.now }
-    ensures { First (headsBack graph.now) 0 (get_or graph.now 3 0) result }
+    ensures { First (heads_back graph.now) 0 (get_or graph.now 3 0) result }
 {
     let end = producers(graph);
     let mut p = 0;
@@ -70,7 +70,7 @@ fn heads_back(graph: &[u32]) -> usize
 fn walk_leaves(graph: &[u32]) -> Walk
     requires sized { Sized edition2 graph.now }
     requires chained { Chained graph.now }
-    ensures { Walked (badLeaves graph.now) (get_or graph.now 2 0) (leafEntries (theoryOf graph.now)) result }
+    ensures { Walked (bad_leaves graph.now) (get_or graph.now 2 0) (leaf_entries (theory_of graph.now)) result }
 {
     let end = nodes(graph);
     let from = links_from(graph);
@@ -96,7 +96,7 @@ fn walk_leaves(graph: &[u32]) -> Walk
 fn walk_heads(graph: &[u32]) -> Walk
     requires sized { Sized edition2 graph.now }
     requires chained { Chained graph.now }
-    ensures { Walked (badHeads graph.now) (get_or graph.now 3 0) (headEntries (theoryOf graph.now)) result }
+    ensures { Walked (bad_heads graph.now) (get_or graph.now 3 0) (head_entries (theory_of graph.now)) result }
 {
     let end = producers(graph);
     let atoms = atoms(graph);
@@ -123,8 +123,8 @@ fn walk_heads(graph: &[u32]) -> Walk
 fn check_heads(graph: &[u32], leaves: usize) -> Checked
     requires sized { Sized edition2 graph.now }
     requires chained { Chained graph.now }
-    requires leaves_value { leaves ≡ leafEntries (theoryOf graph.now) }
-    ensures { answer_of result ≡ firstRefusal (drop 9 (graphRows edition2 graph.now)) }
+    requires leaves_value { leaves ≡ leaf_entries (theory_of graph.now) }
+    ensures { answer_of result ≡ first_refusal (drop 9 (graph_rows edition2 graph.now)) }
 {
     match walk_heads(graph) {
         Walk::Bad(p) => Checked::Head(p as u32),
@@ -144,7 +144,7 @@ fn check_heads(graph: &[u32], leaves: usize) -> Checked
 fn check_leaves(graph: &[u32]) -> Checked
     requires sized { Sized edition2 graph.now }
     requires chained { Chained graph.now }
-    ensures { answer_of result ≡ firstRefusal (drop 8 (graphRows edition2 graph.now)) }
+    ensures { answer_of result ≡ first_refusal (drop 8 (graph_rows edition2 graph.now)) }
 {
     match walk_leaves(graph) {
         Walk::Bad(n) => Checked::Leaf(n as u32),
@@ -156,7 +156,7 @@ fn check_leaves(graph: &[u32]) -> Checked
 fn check_chains(graph: &[u32]) -> Checked
     requires sized { Sized edition2 graph.now }
     requires linked { Linked graph.now }
-    ensures { answer_of result ≡ firstRefusal (drop 6 (graphRows edition2 graph.now)) }
+    ensures { answer_of result ≡ first_refusal (drop 6 (graph_rows edition2 graph.now)) }
 {
     let n = leaves_back(graph);
     if n < nodes(graph) {
@@ -172,8 +172,8 @@ fn check_chains(graph: &[u32]) -> Checked
 // Rows 6, 14 and 7 to 9. Where all links lead upward, rows 6 and 14 pass and no chain is followed for 14.
 fn check_links(graph: &[u32]) -> Checked
     requires sized { Sized edition2 graph.now }
-    requires clear { Clear (badNode graph.now) 0 (get_or graph.now 2 0) × Clear (badProducer graph.now) 0 (get_or graph.now 3 0) }
-    ensures { answer_of result ≡ firstRefusal (drop 5 (graphRows edition2 graph.now)) }
+    requires clear { Clear (bad_node graph.now) 0 (get_or graph.now 2 0) × Clear (bad_producer graph.now) 0 (get_or graph.now 3 0) }
+    ensures { answer_of result ≡ first_refusal (drop 5 (graph_rows edition2 graph.now)) }
 {
     let start = first_turn(graph);
     if links(graph) < start {
@@ -189,7 +189,7 @@ fn check_links(graph: &[u32]) -> Checked
 // Rows 4 to 9 and 14.
 pub fn check_records(graph: &[u32]) -> Checked
     requires { Sized edition2 graph.now }
-    ensures { answer_of result ≡ firstRefusal (drop 3 (graphRows edition2 graph.now)) }
+    ensures { answer_of result ≡ first_refusal (drop 3 (graph_rows edition2 graph.now)) }
 {
     let n = bad_node(graph);
     if n < nodes(graph) {

@@ -7,51 +7,51 @@ use native.Mathlib.Omega.{arith}
 use lib.ListN.{get_or, drop, length-append}
 use lib.Seq.{get_or-drop}
 use Rattle.theory.specs.Sets.{Mem}
-use Rattle.theory.specs.Words.{theoryOf}
+use Rattle.theory.specs.Words.{theory_of}
 use Rattle.theory.specs.Accepted.{Accepted, Edition}
-use Rattle.theory.specs.Edges.{bodyCone, inGraph, conePreds}
+use Rattle.theory.specs.Edges.{body_cone, in_graph, cone_preds}
 use Rattle.theory.specs.Rows.{succs}
 use Rattle.theory.specs.Search.{Collecting}
 use Rattle.theory.specs.Prefix.{upto, between}
 use Rattle.theory.specs.Drive.{Follows, Drives}
 use Rattle.theory.proofs.CountLaws.{pigeonhole}
 use Rattle.theory.proofs.ConeLaws.{no_self}
-use Rattle.theory.proofs.CollectLaws.{collect-row, collect-end, members-cyclic}
-use Rattle.theory.proofs.PrefixLaws.{upto-length, between-same, between-length, upto-split, between-mem}
-use Rattle.theory.proofs.DriveLaws.{follows-all, drives-all}
-use Rattle.graph.proofs.DecodeLaws.{the-atoms}
+use Rattle.theory.proofs.CollectLaws.{collect_row, collect_end, members_cyclic}
+use Rattle.theory.proofs.PrefixLaws.{upto_length, between_same, between_length, upto_split, between_mem}
+use Rattle.theory.proofs.DriveLaws.{follows_all, drives_all}
+use Rattle.graph.proofs.DecodeLaws.{the_atoms}
 use Rattle.area.specs.declared.Bases.{Bases}
 use Rattle.area.specs.Layout.{Laid, Based}
-use Rattle.area.specs.Views.{markIn, queued}
-use Rattle.events.proofs.VertexLaws.{tables-same}
+use Rattle.area.specs.Views.{mark_in, queued}
+use Rattle.events.proofs.VertexLaws.{tables_same}
 use Rattle.components.specs.Gathering.{Gathering}
-use Rattle.components.specs.Classes.{Classifying, Kept, Gathered, Searched, ordered, ctxOf}
-use Rattle.components.proofs.GatherLaws.{within, row-all, row-edges, ordered_same, left}
+use Rattle.components.specs.Classes.{Classifying, Kept, Gathered, Searched, ordered, ctx_of}
+use Rattle.components.proofs.GatherLaws.{within, row_all, row_edges, ordered_same, left}
 
 module _ {ws : List ℕ} {ed : Edition} (acc : Accepted ed ws) {b : Bases} {words : ℕ} (based : Based ws words b) {lim : ℕ} {w₀ w : List ℕ} (n found head tail : ℕ) (r : Searched lim ws b w₀ w n found head tail) where
-  g : Gathering lim b (ctxOf ws b w₀ n found (between found (head - found) (drop b.queue w)) w tail) w tail []
+  g : Gathering lim b (ctx_of ws b w₀ n found (between found (head - found) (drop b.queue w)) w tail) w tail []
   g = r.held
 
-  c : Collecting (b.atoms + b.nodes) (conePreds (theoryOf ws)) (inGraph (theoryOf ws)) (get_or w₀ (b.body_nodes + n) 0) (ordered b w₀ n) (queued b w found) (between found (tail - found) (drop b.queue w)) (between found (head - found) (drop b.queue w)) [] (markIn b w)
+  c : Collecting (b.atoms + b.nodes) (cone_preds (theory_of ws)) (in_graph (theory_of ws)) (get_or w₀ (b.body_nodes + n) 0) (ordered b w₀ n) (queued b w found) (between found (tail - found) (drop b.queue w)) (between found (head - found) (drop b.queue w)) [] (mark_in b w)
   c = g.collecting
 
-  pub tail-low : tail ≤ b.atoms + b.nodes
-  tail-low =
+  pub tail_low : tail ≤ b.atoms + b.nodes
+  tail_low =
       let p = pigeonhole (b.atoms + b.nodes) (between found (tail - found) (drop b.queue w) ++ queued b w found) c.once c.low in
       let a = r.after in let k = r.ahead in
-      omega (arith, length-append (between found (tail - found) (drop b.queue w)) (queued b w found), between-length found (tail - found) (drop b.queue w), upto-length found (drop b.queue w))
+      omega (arith, length-append (between found (tail - found) (drop b.queue w)) (queued b w found), between_length found (tail - found) (drop b.queue w), upto_length found (drop b.queue w))
 
   module _ (h : head < tail) {v : ℕ} (ev : v ≡ get_or w (b.queue + head) 0) where
     at_head : get_or (drop b.queue w) head 0 ≡ v
     at_head = get_or-drop b.queue w head 0 ∙ sym ev
 
     member : Mem v (between found (tail - found) (drop b.queue w))
-    member = let a = r.after in rw at_head at (between-mem found (tail - found) head (drop b.queue w) a (omega arith))
+    member = let a = r.after in rw at_head at (between_mem found (tail - found) head (drop b.queue w) a (omega arith))
 
-    pub head-low : v < b.atoms + b.nodes
-    head-low = c.low v (Memᴰ.append_left (queued b w found) member)
+    pub head_low : v < b.atoms + b.nodes
+    head_low = c.low v (Memᴰ.append_left (queued b w found) member)
 
-    begun : Gathering lim b (ctxOf ws b w₀ n found (v ∷ between found (head - found) (drop b.queue w)) w tail) w tail (succs (theoryOf ws) v)
+    begun : Gathering lim b (ctx_of ws b w₀ n found (v ∷ between found (head - found) (drop b.queue w)) w tail) w tail (succs (theory_of ws) v)
     begun = record {
       laid = r.held.laid;
       long = r.held.long;
@@ -61,15 +61,15 @@ module _ {ws : List ℕ} {ed : Edition} (acc : Accepted ed ws) {b : Bases} {word
       front = λ i l. refl;
       within = g.within;
       after = g.after;
-      collecting = collect-row (b.atoms + b.nodes) (conePreds (theoryOf ws)) (inGraph (theoryOf ws)) g.within c v member (succs (theoryOf ws) v) (row-all acc based v) (row-edges acc based v);
+      collecting = collect_row (b.atoms + b.nodes) (cone_preds (theory_of ws)) (in_graph (theory_of ws)) g.within c v member (succs (theory_of ws) v) (row_all acc based v) (row_edges acc based v);
     }
 
-    pub turn-follows : Follows (Gathering lim b) w tail (succs (theoryOf ws) v)
-    turn-follows = follows-all (Gathering lim b) begun
+    pub turn_follows : Follows (Gathering lim b) w tail (succs (theory_of ws) v)
+    turn_follows = follows_all (Gathering lim b) begun
 
-    module _ {w' : List ℕ} {t' : ℕ} (d : Drives (Gathering lim b) b.states w tail (succs (theoryOf ws) v) w' t' []) where
-      k : Gathering lim b (ctxOf ws b w₀ n found (v ∷ between found (head - found) (drop b.queue w)) w tail) w' t' []
-      k = drives-all (Gathering lim b) begun d
+    module _ {w' : List ℕ} {t' : ℕ} (d : Drives (Gathering lim b) b.states w tail (succs (theory_of ws) v) w' t' []) where
+      k : Gathering lim b (ctx_of ws b w₀ n found (v ∷ between found (head - found) (drop b.queue w)) w tail) w' t' []
+      k = drives_all (Gathering lim b) begun d
 
       same : (i : ℕ) → i < tail → get_or (drop b.queue w') i 0 ≡ get_or (drop b.queue w) i 0
       same i l = get_or-drop b.queue w' i 0 ∙ k.front i l ∙ sym (get_or-drop b.queue w i 0)
@@ -81,10 +81,10 @@ module _ {ws : List ℕ} {ed : Edition} (acc : Accepted ed ws) {b : Bases} {word
           let e : head + 1 - found ≡ suc (head - found) = omega arith in
           let z : found + (head - found) ≡ head = omega arith in
           ap (λ (x : ℕ). between found x (drop b.queue w')) e
-          ∙ ap₂ (λ (x : ℕ) (l : List ℕ). x ∷ l) (ap (λ (x : ℕ). get_or (drop b.queue w') x 0) z ∙ same head h ∙ at_head) (between-same found (head - found) (drop b.queue w') (drop b.queue w) (λ i l. same i (omega arith)))
+          ∙ ap₂ (λ (x : ℕ) (l : List ℕ). x ∷ l) (ap (λ (x : ℕ). get_or (drop b.queue w') x 0) z ∙ same head h ∙ at_head) (between_same found (head - found) (drop b.queue w') (drop b.queue w) (λ i l. same i (omega arith)))
 
-      pub turn-next : Searched lim ws b w₀ w' n found (head + 1) t'
-      turn-next =
+      pub turn_next : Searched lim ws b w₀ w' n found (head + 1) t'
+      turn_next =
           let a = r.after in let f = k.fore in let l = r.held.laid in
           record {
             kept = record {
@@ -114,51 +114,51 @@ module _ {ws : List ℕ} {ed : Edition} (acc : Accepted ed ws) {b : Bases} {word
     all v m = let a = r.ahead in let e : tail - found ≡ head - found = omega arith in rw e at m
 
     whole : queued b w tail ≡ between found (tail - found) (drop b.queue w) ++ queued b w found
-    whole = let a = r.after in let q = r.ahead in let e : found + (tail - found) ≡ tail = omega arith in ap (λ (x : ℕ). upto x (drop b.queue w)) (sym e) ∙ upto-split found (tail - found) (drop b.queue w)
+    whole = let a = r.after in let q = r.ahead in let e : found + (tail - found) ≡ tail = omega arith in ap (λ (x : ℕ). upto x (drop b.queue w)) (sym e) ∙ upto_split found (tail - found) (drop b.queue w)
 
     order_same : ordered b w n ≡ ordered b w₀ n
     order_same = ordered_same b n w₀ w (λ i p. r.kept.past (b.body_nodes + i) (omega arith))
 
-    pub gather-end : Gathered ws b w₀ w n found tail
-    gather-end = record {
+    pub gather_end : Gathered ws b w₀ w n found tail
+    gather_end = record {
       kept = r.kept;
       state = record {
-        tables = tables-same r.kept.tables r.kept.size s.tables;
+        tables = tables_same r.kept.tables r.kept.size s.tables;
         roots = λ v m. left acc based n found s v (rw order_same at m);
         fits = let f = s.fits in omega arith;
-        swept = rw (whole, order_same) (collect-end (b.atoms + b.nodes) (conePreds (theoryOf ws)) (inGraph (theoryOf ws)) g.within c all);
+        swept = rw (whole, order_same) (collect_end (b.atoms + b.nodes) (cone_preds (theory_of ws)) (in_graph (theory_of ws)) g.within c all);
       };
       after = let a = r.after in let q = r.ahead in omega arith;
       front = r.front;
       members = λ i p q l.
           let a = r.after in let z = r.ahead in
           let e = get_or-drop b.queue w i 0 in
-          let t : get_or w (b.queue + i) 0 < (theoryOf ws).atoms = let x = the-atoms ws in let y = based.atoms in omega arith in
-          rw (between-length found (tail - found) (drop b.queue w)) at
-          (members-cyclic (b.atoms + b.nodes) (conePreds (theoryOf ws)) (inGraph (theoryOf ws)) g.within c all (get_or w (b.queue + i) 0)
-          (rw e at (between-mem found (tail - found) i (drop b.queue w) p (omega arith))) (no_self (theoryOf ws) (bodyCone (theoryOf ws)) (get_or w (b.queue + i) 0) t));
+          let t : get_or w (b.queue + i) 0 < (theory_of ws).atoms = let x = the_atoms ws in let y = based.atoms in omega arith in
+          rw (between_length found (tail - found) (drop b.queue w)) at
+          (members_cyclic (b.atoms + b.nodes) (cone_preds (theory_of ws)) (in_graph (theory_of ws)) g.within c all (get_or w (b.queue + i) 0)
+          (rw e at (between_mem found (tail - found) i (drop b.queue w) p (omega arith))) (no_self (theory_of ws) (body_cone (theory_of ws)) (get_or w (b.queue + i) 0) t));
     }
 
 -- ---- a search against the words that it began in, or those before its root was met
 
 module _ {b : Bases} (laid : Laid b) {w₀ w₁ : List ℕ} (k : Kept b w₀ w₁) (n : ℕ) (fits : n + 1 ≤ b.atoms + b.nodes) where
-  root-same : get_or w₁ (b.body_nodes + n) 0 ≡ get_or w₀ (b.body_nodes + n) 0
-  root-same = k.past (b.body_nodes + n) (omega arith)
+  root_same : get_or w₁ (b.body_nodes + n) 0 ≡ get_or w₀ (b.body_nodes + n) 0
+  root_same = k.past (b.body_nodes + n) (omega arith)
 
-  order-kept : ordered b w₁ n ≡ ordered b w₀ n
-  order-kept = ordered_same b n w₀ w₁ (λ i l. k.past (b.body_nodes + i) (omega arith))
+  order_kept : ordered b w₁ n ≡ ordered b w₀ n
+  order_kept = ordered_same b n w₀ w₁ (λ i l. k.past (b.body_nodes + i) (omega arith))
 
-  pub search-restart : {lim : ℕ} {ws : List ℕ} {found : ℕ} → Searched lim ws b w₀ w₁ n found found (found + 1) → Searched lim ws b w₁ w₁ n found found (found + 1)
-  search-restart r = record {
+  pub search_restart : {lim : ℕ} {ws : List ℕ} {found : ℕ} → Searched lim ws b w₀ w₁ n found found (found + 1) → Searched lim ws b w₁ w₁ n found found (found + 1)
+  search_restart r = record {
     kept = record { size = refl; tables = refl; past = λ i l. refl };
     after = r.after;
     ahead = r.ahead;
     front = λ i l. refl;
-    held = rw (root-same, order-kept) r.held;
+    held = rw (root_same, order_kept) r.held;
   }
 
-  pub search-join : {lim : ℕ} {ws w₂ : List ℕ} {found head tail : ℕ} → ((i : ℕ) → i < found → get_or w₁ (b.queue + i) 0 ≡ get_or w₀ (b.queue + i) 0) → Searched lim ws b w₁ w₂ n found head tail → Searched lim ws b w₀ w₂ n found head tail
-  search-join front r = record {
+  pub search_join : {lim : ℕ} {ws w₂ : List ℕ} {found head tail : ℕ} → ((i : ℕ) → i < found → get_or w₁ (b.queue + i) 0 ≡ get_or w₀ (b.queue + i) 0) → Searched lim ws b w₁ w₂ n found head tail → Searched lim ws b w₀ w₂ n found head tail
+  search_join front r = record {
     kept = record {
       size = r.kept.size ∙ k.size;
       tables = r.kept.tables ∙ k.tables;
@@ -167,5 +167,5 @@ module _ {b : Bases} (laid : Laid b) {w₀ w₁ : List ℕ} (k : Kept b w₀ w�
     after = r.after;
     ahead = r.ahead;
     front = λ i l. r.front i l ∙ front i l;
-    held = rw (root-same, order-kept) at r.held;
+    held = rw (root_same, order_kept) at r.held;
   }

@@ -4,7 +4,7 @@ use Rattle.theory.specs.Sets.{Set}
 use Rattle.theory.specs.Search.{Within, Collecting}
 use Rattle.theory.specs.Prefix.{between}
 use Rattle.area.specs.declared.Bases.{Bases}
-use Rattle.area.specs.Views.{markIn, queued}
+use Rattle.area.specs.Views.{mark_in, queued}
 use Rattle.area.specs.Layout.{Laid}
 
 -- what a search is about: the graph, its root, the vertices that may be a root after it, those of its members whose rows have been begun, and how many
@@ -30,4 +30,4 @@ pub record Gathering (lim : ℕ) (b : Bases) (c : Ctx) (w : List ℕ) (t : ℕ) 
   pub front : (i : ℕ) → i < c.front → get_or w (b.queue + i) 0 ≡ get_or c.base (b.queue + i) 0
   pub within : Within (b.atoms + b.nodes) c.pred c.graph
   pub after : c.from ≤ t
-  pub collecting : Collecting (b.atoms + b.nodes) c.pred c.graph c.root c.earlier (queued b w c.from) (between c.from (t - c.from) (drop b.queue w)) c.begun todo (markIn b w)
+  pub collecting : Collecting (b.atoms + b.nodes) c.pred c.graph c.root c.earlier (queued b w c.from) (between c.from (t - c.from) (drop b.queue w)) c.begun todo (mark_in b w)

@@ -1,13 +1,13 @@
 // The entries of a vertex's row, one after the other, each collected: the walk over rows and chains of a search of the second walk.
 ghost use Rattle.std.specs.Prelude.{[], ◌∷◌, ◌+◌, ◌<◌, ◌≤◌, length, get_or};
 ghost use Rattle.std.proofs.Math.Seq.{slice};
-ghost use Rattle.theory.specs.Words.{theoryOf};
+ghost use Rattle.theory.specs.Words.{theory_of};
 ghost use Rattle.theory.specs.Accepted.{Accepted, edition1};
 ghost use Rattle.theory.specs.Rows.{flat_map, succs};
 ghost use Rattle.theory.specs.Drive.{Follows, Drives};
 ghost use Rattle.area.specs.Layout.{Based};
 ghost use Rattle.adjacency.specs.Tables.{start_at, row_at};
-ghost use Rattle.area.specs.Views.{asVertices};
+ghost use Rattle.area.specs.Views.{as_vertices};
 ghost use Rattle.events.specs.Held.{Spanned, Named, Tables};
 ghost use Rattle.components.specs.Gathering.{Gathering};
 
@@ -30,8 +30,8 @@ fn collect(work: &mut [u16], b: Bases, v: usize, tail: usize) -> usize
 // The nodes that stand in the tables from one place to another.
 fn collect_nodes(work: &mut [u16], b: Bases, from: usize, to: usize, tail: usize) -> usize
     requires from_le_to { (from ≤ to) × (to ≤ b.states) }
-    requires follows { Follows (Gathering 65536 b) work.old tail (asVertices b (slice from to work.old)) }
-    ensures { Drives (Gathering 65536 b) b.states work.old tail (asVertices b (slice from to work.old)) work.new result [] }
+    requires follows { Follows (Gathering 65536 b) work.old tail (as_vertices b (slice from to work.old)) }
+    ensures { Drives (Gathering 65536 b) b.states work.old tail (as_vertices b (slice from to work.old)) work.new result [] }
 {
     let mut t = tail;
     let mut i = from;
@@ -45,8 +45,8 @@ fn collect_nodes(work: &mut [u16], b: Bases, from: usize, to: usize, tail: usize
 // The heads of a producer.
 fn collect_heads(graph: &[u16], work: &mut [u16], b: Bases, p: usize, tail: usize) -> usize
     requires accepted { Accepted edition1 graph.now × (p < get_or graph.now 3 0) }
-    requires follows { Follows (Gathering 65536 b) work.old tail ((theoryOf graph.now).heads p) }
-    ensures { Drives (Gathering 65536 b) b.states work.old tail ((theoryOf graph.now).heads p) work.new result [] }
+    requires follows { Follows (Gathering 65536 b) work.old tail ((theory_of graph.now).heads p) }
+    ensures { Drives (Gathering 65536 b) b.states work.old tail ((theory_of graph.now).heads p) work.new result [] }
 {
     let from = graph::links_from(graph);
     let mut t = tail;
@@ -69,8 +69,8 @@ fn collect_producers(
     tail: usize,
 ) -> usize
     requires accepted { Accepted edition1 graph.now × (from ≤ to) × (to ≤ b.states) × Named graph.now work.old from to }
-    requires follows { Follows (Gathering 65536 b) work.old tail (flat_map (theoryOf graph.now).heads (slice from to work.old)) }
-    ensures { Drives (Gathering 65536 b) b.states work.old tail (flat_map (theoryOf graph.now).heads (slice from to work.old)) work.new result [] }
+    requires follows { Follows (Gathering 65536 b) work.old tail (flat_map (theory_of graph.now).heads (slice from to work.old)) }
+    ensures { Drives (Gathering 65536 b) b.states work.old tail (flat_map (theory_of graph.now).heads (slice from to work.old)) work.new result [] }
 {
     let mut t = tail;
     let mut i = from;
@@ -83,8 +83,8 @@ fn collect_producers(
 
 fn collect_row(work: &mut [u16], b: Bases, base: usize, rows: usize, r: usize, tail: usize) -> usize
     requires spanned { Spanned b.states work.old base rows r }
-    requires follows { Follows (Gathering 65536 b) work.old tail (asVertices b (row_at work.old base rows r)) }
-    ensures { Drives (Gathering 65536 b) b.states work.old tail (asVertices b (row_at work.old base rows r)) work.new result [] }
+    requires follows { Follows (Gathering 65536 b) work.old tail (as_vertices b (row_at work.old base rows r)) }
+    ensures { Drives (Gathering 65536 b) b.states work.old tail (as_vertices b (row_at work.old base rows r)) work.new result [] }
 {
     let from = adjacency::row_start(work, base, rows, r);
     let to = adjacency::row_start(work, base, rows, r + 1);
@@ -95,8 +95,8 @@ fn collect_row(work: &mut [u16], b: Bases, base: usize, rows: usize, r: usize, t
 fn collect_body(graph: &[u16], work: &mut [u16], b: Bases, m: usize, tail: usize) -> usize
     requires accepted { Accepted edition1 graph.now × Spanned b.states work.old b.by_body b.nodes m }
     requires named { Named graph.now work.old (start_at work.old b.by_body b.nodes m) (start_at work.old b.by_body b.nodes (m + 1)) }
-    requires follows { Follows (Gathering 65536 b) work.old tail (flat_map (theoryOf graph.now).heads (row_at work.old b.by_body b.nodes m)) }
-    ensures { Drives (Gathering 65536 b) b.states work.old tail (flat_map (theoryOf graph.now).heads (row_at work.old b.by_body b.nodes m)) work.new result [] }
+    requires follows { Follows (Gathering 65536 b) work.old tail (flat_map (theory_of graph.now).heads (row_at work.old b.by_body b.nodes m)) }
+    ensures { Drives (Gathering 65536 b) b.states work.old tail (flat_map (theory_of graph.now).heads (row_at work.old b.by_body b.nodes m)) work.new result [] }
 {
     let from = adjacency::row_start(work, b.by_body, b.nodes, m);
     let to = adjacency::row_start(work, b.by_body, b.nodes, m + 1);
@@ -105,9 +105,9 @@ fn collect_body(graph: &[u16], work: &mut [u16], b: Bases, m: usize, tail: usize
 
 // Every entry of the row of vertex v.
 pub fn collect_vertex(graph: &[u16], work: &mut [u16], b: Bases, v: usize, tail: usize) -> usize
-    requires accepted { Accepted edition1 graph.now × Based graph.now (length work.old) b × (v < b.atoms + b.nodes) × Tables (theoryOf graph.now) b work.old }
-    requires follows { Follows (Gathering 65536 b) work.old tail (succs (theoryOf graph.now) v) }
-    ensures { Drives (Gathering 65536 b) b.states work.old tail (succs (theoryOf graph.now) v) work.new result [] }
+    requires accepted { Accepted edition1 graph.now × Based graph.now (length work.old) b × (v < b.atoms + b.nodes) × Tables (theory_of graph.now) b work.old }
+    requires follows { Follows (Gathering 65536 b) work.old tail (succs (theory_of graph.now) v) }
+    ensures { Drives (Gathering 65536 b) b.states work.old tail (succs (theory_of graph.now) v) work.new result [] }
 {
     if v < b.atoms {
         return collect_row(work, b, b.atom_nodes, b.atoms, v, tail);

@@ -5,8 +5,8 @@ mod collecting;
 ghost use Rattle.std.specs.Prelude.{◌≡◌, ◌+◌, ◌<◌, ◌≤◌, length};
 ghost use Rattle.theory.specs.Accepted.{Accepted, edition1};
 ghost use Rattle.area.specs.Layout.{Laid, Based};
-ghost use Rattle.components.specs.Classes.{Classifying, Searched, Gathered, Component, flagMember, Sweeping, Classified};
-ghost use Rattle.theory.specs.Words.{theoryOf};
+ghost use Rattle.components.specs.Classes.{Classifying, Searched, Gathered, Component, flag_member, Sweeping, Classified};
+ghost use Rattle.theory.specs.Words.{theory_of};
 ghost use Rattle.events.specs.Held.{Tables};
 ghost use Rattle.finishing.specs.Finished.{Ready, Marked};
 
@@ -14,7 +14,7 @@ use area::Bases;
 
 // The members that are on the queue from `found` on, the root alone at first, and those that their rows lead to.
 fn follow(graph: &[u16], work: &mut [u16], b: Bases, n: usize, found: usize) -> usize
-    requires { Accepted edition1 graph.now × Based graph.now (length work.old) b × Tables (theoryOf graph.now) b work.old × Searched 65536 graph.now b work.old work.old n found found (found + 1) }
+    requires { Accepted edition1 graph.now × Based graph.now (length work.old) b × Tables (theory_of graph.now) b work.old × Searched 65536 graph.now b work.old work.old n found found (found + 1) }
     ensures { Searched 65536 graph.now b work.old work.new n found result result }
 {
     let mut head = found;
@@ -45,7 +45,7 @@ fn gather(graph: &[u16], work: &mut [u16], b: Bases, n: usize, found: usize) -> 
 // The flag of a member that is an atom.
 fn flag_member(work: &mut [u16], b: Bases, i: usize)
     requires { Laid b × (b.end ≤ length work.old) × (i < b.atoms + b.nodes) }
-    ensures { work.new ≡ flagMember b work.old i }
+    ensures { work.new ≡ flag_member b work.old i }
 {
     let v = graph::at(work, b.queue + i);
     if v < b.atoms {
@@ -86,7 +86,7 @@ fn classify(graph: &[u16], work: &mut [u16], b: Bases, count: usize)
 
 // The cyclic atoms, flagged: both walks.
 pub fn cyclic_atoms(graph: &[u16], work: &mut [u16], b: Bases)
-    requires { Accepted edition1 graph.now × Ready graph.now b work.old × Tables (theoryOf graph.now) b work.old × Marked graph.now b 1 work.old }
+    requires { Accepted edition1 graph.now × Ready graph.now b work.old × Tables (theory_of graph.now) b work.old × Marked graph.now b 1 work.old }
     ensures { Classified graph.now b work.old work.new }
 {
     let count = finishing::finish_order(graph, work, b);

@@ -7,149 +7,149 @@ use mathlib.Core.List.{List, [], ◌∷◌, ◌++◌}
 use Prim.Native.Nat.{ℕ, suc, ◌+◌, ◌-◌, ◌≤◌, ◌<◌, zero-le}
 use native.Mathlib.Numerals.{add-one}
 use native.Mathlib.Omega.{arith}
-use borrow.Author.Tests.{eq-eqb, ne_eqb, not-true, not-false}
+use borrow.Author.Tests.{eq-eqb, ne_eqb, not_true, not_false}
 use lib.Dec.{eqb}
 use lib.ListN.{length, get_or, set, take, drop, length-set}
 use lib.Seq.{get_or-set_other, get_or-drop, take-set-le, drop-set-lt}
 use Rattle.theory.specs.Sets.{Is, Set, Mem, members}
 use Rattle.theory.specs.Theory.{Theory, WellFormed}
-use Rattle.theory.specs.Words.{theoryOf}
+use Rattle.theory.specs.Words.{theory_of}
 use Rattle.theory.specs.Edges.{cone}
 use Rattle.theory.specs.Accepted.{Edition, Accepted}
 use Rattle.theory.specs.Drive.{Follows, Drives}
 use Rattle.theory.proofs.SetLaws.{clash, and_intro, and_left, and_right, is_false}
-use Rattle.theory.proofs.EdgeLaws.{cone-body}
+use Rattle.theory.proofs.EdgeLaws.{cone_body}
 use Rattle.area.specs.declared.Bases.{Bases}
 use Rattle.area.specs.Layout.{Laid, Based}
 use Rattle.area.specs.Views.{mark_of}
-use Rattle.area.proofs.PartLaws.{frame-less, behind_more}
+use Rattle.area.proofs.PartLaws.{frame_less, behind_more}
 use Rattle.area.proofs.FillLaws.{Filled}
-use Rattle.area.proofs.ListLaws.{list-more, list-after, drop-later}
+use Rattle.area.proofs.ListLaws.{list_more, list_after, drop_later}
 use Rattle.cones.specs.declared.Cone.{Cone}
-use Rattle.cones.specs.Cones.{nodeMark, nodesOf, wantedBy, factBy, Flagged, Kept, Held}
+use Rattle.cones.specs.Cones.{node_mark, nodes_of, wanted_by, fact_by, Flagged, Kept, Held}
 use Rattle.cones.specs.Finding.{Finding, stage, Searching, Begun}
-use Rattle.cones.proofs.FindLaws.{find-start, find-same, find-producer}
-use Rattle.cones.proofs.FactLaws.{members-in, members-out}
-use Rattle.cones.proofs.SearchLaws.{search-on, search-end}
+use Rattle.cones.proofs.FindLaws.{find_start, find_same, find_producer}
+use Rattle.cones.proofs.FactLaws.{members_in, members_out}
+use Rattle.cones.proofs.SearchLaws.{search_on, search_end}
 
-pub kept-none : {b : Bases} {w : List ℕ} → Kept b w w
-kept-none = record { size = refl; tables = refl; flags = refl }
+pub kept_none : {b : Bases} {w : List ℕ} → Kept b w w
+kept_none = record { size = refl; tables = refl; flags = refl }
 
 pub kept_trans : {b : Bases} {w w' w'' : List ℕ} → Kept b w w' → Kept b w' w'' → Kept b w w''
 kept_trans k l = record { size = l.size ∙ k.size; tables = l.tables ∙ k.tables; flags = l.flags ∙ k.flags }
 
-pub kept-flags : (th : Theory) {b : Bases} {w w' : List ℕ} → Kept b w w' → Flagged th b w → Flagged th b w'
-kept-flags th {b} {w} {w'} k f a l = rw (sym (get_or-drop b.cyclic_atoms w' a 0) ∙ ap (λ (x : List ℕ). get_or x a 0) k.flags ∙ get_or-drop b.cyclic_atoms w a 0) (f a l)
+pub kept_flags : (th : Theory) {b : Bases} {w w' : List ℕ} → Kept b w w' → Flagged th b w → Flagged th b w'
+kept_flags th {b} {w} {w'} k f a l = rw (sym (get_or-drop b.cyclic_atoms w' a 0) ∙ ap (λ (x : List ℕ). get_or x a 0) k.flags ∙ get_or-drop b.cyclic_atoms w a 0) (f a l)
 
 -- the nodes' marks are cleared
-pub marks-part : {b : Bases} {words : ℕ} → Laid b → b.end ≤ words → (b.states + b.atoms ≤ b.states + b.atoms + b.nodes) × (b.states + b.atoms + b.nodes ≤ words)
-marks-part laid ends = (omega arith, omega arith)
+pub marks_part : {b : Bases} {words : ℕ} → Laid b → b.end ≤ words → (b.states + b.atoms ≤ b.states + b.atoms + b.nodes) × (b.states + b.atoms + b.nodes ≤ words)
+marks_part laid ends = (omega arith, omega arith)
 
 module _ {b : Bases} (laid : Laid b) {w w' : List ℕ} (c : Filled (b.states + b.atoms) (b.states + b.atoms + b.nodes) 0 w w') where
-  pub cleared-kept : Kept b w w'
-  cleared-kept = record { size = c.size; tables = frame-less (b.states + b.atoms) w w' c.before b.states (omega arith); flags = behind_more (b.states + b.atoms + b.nodes) w w' c.after b.cyclic_atoms (omega arith) }
+  pub cleared_kept : Kept b w w'
+  cleared_kept = record { size = c.size; tables = frame_less (b.states + b.atoms) w w' c.before b.states (omega arith); flags = behind_more (b.states + b.atoms + b.nodes) w w' c.after b.cyclic_atoms (omega arith) }
 
-  pub cleared-marks : (n : ℕ) → n < b.nodes → nodeMark b w' n ≡ 0
-  cleared-marks n l = c.at (mark_of b (b.atoms + n)) (omega arith) (omega arith)
+  pub cleared_marks : (n : ℕ) → n < b.nodes → node_mark b w' n ≡ 0
+  cleared_marks n l = c.at (mark_of b (b.atoms + n)) (omega arith) (omega arith)
 
-pub begun-start : {lim : ℕ} {ed : Edition} → ed.counts ≤ lim → {ws : List ℕ} → Accepted ed ws → {b : Bases} {w : List ℕ} → Based ws (length w) b → (m : Bool)
-    → ((n : ℕ) → n < b.nodes → nodeMark b w n ≡ 0) → Begun lim (theoryOf ws) m b w 0 (record { nodes = 0; facts = 0 })
-unfolding theoryOf members
-begun-start le acc base m zeros = record {
+pub begun_start : {lim : ℕ} {ed : Edition} → ed.counts ≤ lim → {ws : List ℕ} → Accepted ed ws → {b : Bases} {w : List ℕ} → Based ws (length w) b → (m : Bool)
+    → ((n : ℕ) → n < b.nodes → node_mark b w n ≡ 0) → Begun lim (theory_of ws) m b w 0 (record { nodes = 0; facts = 0 })
+unfolding theory_of members
+begun_start le acc base m zeros = record {
   search = record {
     laid = base.laid;
     ends = base.ends;
     nodes = base.nodes;
-    small = let e = base.nodes in let h = acc.nodes-few in omega arith;
+    small = let e = base.nodes in let h = acc.nodes_few in omega arith;
     behind = zero-le;
     room = zero-le;
-    finding = find-start (λ n l. zeros n (let e = base.nodes in omega arith));
+    finding = find_start (λ n l. zeros n (let e = base.nodes in omega arith));
     beyond = refl;
   };
   producers = base.producers;
-  few = let e = base.producers in let h = acc.producers-few in omega arith;
+  few = let e = base.producers in let h = acc.producers_few in omega arith;
   low = zero-le;
   listed = zero-le;
   facts = refl;
 }
 
 -- what the search keeps
-pub kept-end : {lim : ℕ} {th : Theory} {wanted : Set} {p next : ℕ} {b : Bases} {w w' : List ℕ} {count : ℕ} → Searching lim b (stage th wanted p next (drop b.fact_rows w)) w' count [] → length w' ≡ length w
+pub kept_end : {lim : ℕ} {th : Theory} {wanted : Set} {p next : ℕ} {b : Bases} {w w' : List ℕ} {count : ℕ} → Searching lim b (stage th wanted p next (drop b.fact_rows w)) w' count [] → length w' ≡ length w
     → take b.states w' ≡ take b.states w → Kept b w w'
-kept-end {b = b} {w} {w'} s size frame = record {
+kept_end {b = b} {w} {w'} s size frame = record {
   size = size;
   tables = frame;
-  flags = let l = s.laid in drop-later b.fact_rows b.cyclic_atoms w w' (omega arith) s.beyond;
+  flags = let l = s.laid in drop_later b.fact_rows b.cyclic_atoms w w' (omega arith) s.beyond;
 }
 
 -- producer p; r: whether it is wanted
-module _ {lim : ℕ} {th : Theory} {m : Bool} {b : Bases} {w : List ℕ} {p : ℕ} {c : Cone} (s : Begun lim th m b w p c) (low : p < th.producers) {r : Bool} (is : r ≡ wantedBy th m p) where
-  pub begun-skip : not r ≡ true → Begun lim th m b w (p + 1) c
-  begun-skip no' = record {
-    search = search-on s.search refl zero-le (rw add-one (find-producer s.search.finding [] (λ n i. absurd (Memᴰ.not-nil i)) (λ n e h. clash h none))) refl;
+module _ {lim : ℕ} {th : Theory} {m : Bool} {b : Bases} {w : List ℕ} {p : ℕ} {c : Cone} (s : Begun lim th m b w p c) (low : p < th.producers) {r : Bool} (is : r ≡ wanted_by th m p) where
+  pub begun_skip : not r ≡ true → Begun lim th m b w (p + 1) c
+  begun_skip no' = record {
+    search = search_on s.search refl zero-le (rw add-one (find_producer s.search.finding [] (λ n i. absurd (Memᴰ.not-nil i)) (λ n e h. clash h none))) refl;
     producers = s.producers;
     few = s.few;
     low = omega arith;
     listed = let k = s.listed in omega arith;
-    facts = s.facts ∙ sym (members-out p (factBy th m) (is_false (factBy th m p) (λ h. clash (and_right (eqb (th.body p) 0) (wantedBy th m p) h) none)));
+    facts = s.facts ∙ sym (members_out p (fact_by th m) (is_false (fact_by th m p) (λ h. clash (and_right (eqb (th.body p) 0) (wanted_by th m p) h) none)));
   }
     where
-      none : wantedBy th m p ≡ false
-      none = sym is ∙ not-true r no'
+      none : wanted_by th m p ≡ false
+      none = sym is ∙ not_true r no'
 
   -- k: its body's number from 1, or 0
   module _ (yes' : not r ≡ false) {k : ℕ} (e : th.body p ≡ k) where
-    taken : Is (wantedBy th m p)
-    taken = sym is ∙ not-false r yes'
+    taken : Is (wanted_by th m p)
+    taken = sym is ∙ not_false r yes'
 
     -- it has a body, which comes next
     module _ (ok : WellFormed th) (some : 0 < k) where
       body_is : th.body p ≡ suc (k - 1)
       body_is = omega arith
 
-      body-next : Searching lim b (stage th (wantedBy th m) (p + 1) 0 (drop b.fact_rows w)) w c.nodes ((k - 1) ∷ [])
-      body-next = search-on s.search refl zero-le (rw add-one (find-producer s.search.finding ((k - 1) ∷ []) ahead next)) refl
+      body_next : Searching lim b (stage th (wanted_by th m) (p + 1) 0 (drop b.fact_rows w)) w c.nodes ((k - 1) ∷ [])
+      body_next = search_on s.search refl zero-le (rw add-one (find_producer s.search.finding ((k - 1) ∷ []) ahead next)) refl
         where
-          ahead : (n : ℕ) → Mem n ((k - 1) ∷ []) → Is (cone th (wantedBy th m) n)
+          ahead : (n : ℕ) → Mem n ((k - 1) ∷ []) → Is (cone th (wanted_by th m) n)
           ahead n i =
-              subst (λ (z : ℕ). Is (cone th (wantedBy th m) z)) (sym (Memᴰ.eq_of_singleton i))
-              (cone-body th (wantedBy th m) p (k - 1) low (ok.body-low p (k - 1) low body_is) body_is taken)
+              subst (λ (z : ℕ). Is (cone th (wanted_by th m) z)) (sym (Memᴰ.eq_of_singleton i))
+              (cone_body th (wanted_by th m) p (k - 1) low (ok.body_low p (k - 1) low body_is) body_is taken)
 
-          next : (n : ℕ) → th.body p ≡ suc n → Is (wantedBy th m p) → Mem n ((k - 1) ∷ [])
+          next : (n : ℕ) → th.body p ≡ suc n → Is (wanted_by th m p) → Mem n ((k - 1) ∷ [])
           next n q h = let z : n ≡ k - 1 = omega arith in Memᴰ.head z
 
-      pub begun-follows : Follows (Searching lim b) w c.nodes ((k - 1) ∷ [])
-      begun-follows = record { ctx = stage th (wantedBy th m) (p + 1) 0 (drop b.fact_rows w); more = []; held = body-next }
+      pub begun_follows : Follows (Searching lim b) w c.nodes ((k - 1) ∷ [])
+      begun_follows = record { ctx = stage th (wanted_by th m) (p + 1) 0 (drop b.fact_rows w); more = []; held = body_next }
 
-      pub begun-body : {w' : List ℕ} {t : ℕ} → Drives (Searching lim b) b.states w c.nodes ((k - 1) ∷ []) w' t [] → Begun lim th m b w' (p + 1) (record { nodes = t; facts = c.facts }) × Kept b w w'
-      begun-body {w'} {t} d = (
+      pub begun_body : {w' : List ℕ} {t : ℕ} → Drives (Searching lim b) b.states w c.nodes ((k - 1) ∷ []) w' t [] → Begun lim th m b w' (p + 1) (record { nodes = t; facts = c.facts }) × Kept b w w'
+      begun_body {w'} {t} d = (
         record {
           search = rw beyond after;
           producers = s.producers;
           few = s.few;
           low = omega arith;
           listed = let l = s.listed in omega arith;
-          facts = ap (take c.facts) beyond ∙ s.facts ∙ sym (members-out p (factBy th m) (is_false (factBy th m p) (λ h. clash (and_left (eqb (th.body p) 0) (wantedBy th m p) h) (ne_eqb (th.body p) 0 (λ q. omega arith)))));
+          facts = ap (take c.facts) beyond ∙ s.facts ∙ sym (members_out p (fact_by th m) (is_false (fact_by th m p) (λ h. clash (and_left (eqb (th.body p) 0) (wanted_by th m p) h) (ne_eqb (th.body p) 0 (λ q. omega arith)))));
         },
-        kept-end after d.size d.frame,
+        kept_end after d.size d.frame,
       )
         where
-          after : Searching lim b (stage th (wantedBy th m) (p + 1) 0 (drop b.fact_rows w)) w' t []
-          after = d.keeps (stage th (wantedBy th m) (p + 1) 0 (drop b.fact_rows w)) [] body-next
+          after : Searching lim b (stage th (wanted_by th m) (p + 1) 0 (drop b.fact_rows w)) w' t []
+          after = d.keeps (stage th (wanted_by th m) (p + 1) 0 (drop b.fact_rows w)) [] body_next
 
           beyond : drop b.fact_rows w' ≡ drop b.fact_rows w
           beyond = after.beyond
 
     -- it is a fact, and listed
-    pub begun-fact : k ≤ 0 → Begun lim th m b (set w (b.fact_rows + c.facts) p) (p + 1) (record { nodes = c.nodes; facts = c.facts + 1 }) × Kept b w (set w (b.fact_rows + c.facts) p)
-    begun-fact none = (
+    pub begun_fact : k ≤ 0 → Begun lim th m b (set w (b.fact_rows + c.facts) p) (p + 1) (record { nodes = c.nodes; facts = c.facts + 1 }) × Kept b w (set w (b.fact_rows + c.facts) p)
+    begun_fact none = (
       record {
-        search = search-on s.search (length-set w at p) zero-le finding refl;
+        search = search_on s.search (length-set w at p) zero-le finding refl;
         producers = s.producers;
         few = s.few;
         low = omega arith;
         listed = let l = s.listed in omega arith;
-        facts = list-more b.fact_rows c.facts w p room ∙ ap (λ (l : List ℕ). l ++ (p ∷ [])) s.facts ∙ sym (members-in p (factBy th m) (and_intro (eq-eqb (th.body p) 0 (omega arith)) taken));
+        facts = list_more b.fact_rows c.facts w p room ∙ ap (λ (l : List ℕ). l ++ (p ∷ [])) s.facts ∙ sym (members_in p (fact_by th m) (and_intro (eq-eqb (th.body p) 0 (omega arith)) taken));
       },
       record {
         size = length-set w at p;
@@ -164,17 +164,17 @@ module _ {lim : ℕ} {th : Theory} {m : Bool} {b : Bases} {w : List ℕ} {p : �
         room : at < length w
         room = let l = s.search.laid in let h = s.search.ends in let f = s.listed in let q = s.producers in omega arith
 
-        finding : Finding th (wantedBy th m) (p + 1) (nodesOf b (set w at p) c.nodes) [] [] (nodeMark b (set w at p))
+        finding : Finding th (wanted_by th m) (p + 1) (nodes_of b (set w at p) c.nodes) [] [] (node_mark b (set w at p))
         finding =
             let l = s.search.laid in
             let o = s.search.room in
             let q = s.search.nodes in
-            rw (list-after b.body_nodes c.nodes w at p (omega arith), add-one)
-            (find-same (find-producer s.search.finding [] (λ n i. absurd (Memᴰ.not-nil i)) (λ n y h. absurd (omega arith)))
+            rw (list_after b.body_nodes c.nodes w at p (omega arith), add-one)
+            (find_same (find_producer s.search.finding [] (λ n i. absurd (Memᴰ.not-nil i)) (λ n y h. absurd (omega arith)))
             (λ n h. get_or-set_other w at (mark_of b (b.atoms + n)) p 0 (λ y. omega arith)))
 
 -- the search has ended
-pub held-end : {lim : ℕ} {th : Theory} {m : Bool} {b : Bases} {w w' : List ℕ} {next count : ℕ} {c : Cone} → Begun lim th m b w th.producers c
-    → Searching lim b (stage th (wantedBy th m) th.producers next (drop b.fact_rows w)) w' count [] → count ≤ next
-    → Held th (cone th (wantedBy th m)) (factBy th m) b w' (record { nodes = count; facts = c.facts })
-held-end {c = c} g s l = record { found = search-end s l; few = g.listed; lists = ap (take c.facts) s.beyond ∙ g.facts }
+pub held_end : {lim : ℕ} {th : Theory} {m : Bool} {b : Bases} {w w' : List ℕ} {next count : ℕ} {c : Cone} → Begun lim th m b w th.producers c
+    → Searching lim b (stage th (wanted_by th m) th.producers next (drop b.fact_rows w)) w' count [] → count ≤ next
+    → Held th (cone th (wanted_by th m)) (fact_by th m) b w' (record { nodes = count; facts = c.facts })
+held_end {c = c} g s l = record { found = search_end s l; few = g.listed; lists = ap (take c.facts) s.beyond ∙ g.facts }

@@ -17,19 +17,19 @@ use Rattle.area.specs.declared.Bases.{Bases}
 use Rattle.cones.specs.declared.Cone.{Cone}
 use Rattle.cones.specs.Cones.{facts_of, Held}
 
-pub members-in : (p : ℕ) (s : Set) → Is (s p) → members (p + 1) s ≡ members p s ++ (p ∷ [])
+pub members_in : (p : ℕ) (s : Set) → Is (s p) → members (p + 1) s ≡ members p s ++ (p ∷ [])
 unfolding members
-members-in p s h = rw add-one (ap (λ (t : Bool). cond t (members p s ++ (p ∷ [])) (members p s)) h)
+members_in p s h = rw add-one (ap (λ (t : Bool). cond t (members p s ++ (p ∷ [])) (members p s)) h)
 
-pub members-out : (p : ℕ) (s : Set) → s p ≡ false → members (p + 1) s ≡ members p s
+pub members_out : (p : ℕ) (s : Set) → s p ≡ false → members (p + 1) s ≡ members p s
 unfolding members
-members-out p s h = rw add-one (ap (λ (t : Bool). cond t (members p s ++ (p ∷ [])) (members p s)) h)
+members_out p s h = rw add-one (ap (λ (t : Bool). cond t (members p s ++ (p ∷ [])) (members p s)) h)
 
 -- a number below the bound is a member exactly if it is in the set
-pub members-mem : (n : ℕ) (s : Set) (x : ℕ) → Mem x (members n s) ↔ ((x < n) × Is (s x))
+pub members_mem : (n : ℕ) (s : Set) (x : ℕ) → Mem x (members n s) ↔ ((x < n) × Is (s x))
 unfolding members
-members-mem zero s x = ((λ m. absurd (Memᴰ.not-nil m)), λ h. absurd (not-suc-le-zero h.0))
-members-mem (suc n) s x = go (bool_cases (s n)) (members-mem n s x)
+members_mem zero s x = ((λ m. absurd (Memᴰ.not-nil m)), λ h. absurd (not-suc-le-zero h.0))
+members_mem (suc n) s x = go (bool_cases (s n)) (members_mem n s x)
   where
     go : (s n ≡ true) ⊎ (s n ≡ false) → Mem x (members n s) ↔ ((x < n) × Is (s x)) → Mem x (cond (s n) (members n s ++ (n ∷ [])) (members n s)) ↔ ((x < suc n) × Is (s x))
     go (inl e) r = rw e ((λ m. to (Memᴰ.append_cases (members n s) m)), λ h. from h (ℕ_discrete x n))
@@ -47,5 +47,5 @@ members-mem (suc n) s x = go (bool_cases (s n)) (members-mem n s x)
         from h (yes q) = clash (subst (λ (z : ℕ). Is (s z)) q h.1) e
         from h (no q) = let l : x < suc n = h.0 in r.1 (omega arith, h.1)
 
-pub fact-mem : {th : Theory} {s facts : Set} {b : Bases} {w : List ℕ} {c : Cone} → Held th s facts b w c → (p : ℕ) → Mem p (facts_of b w c.facts) ↔ ((p < th.producers) × Is (facts p))
-fact-mem {th} {facts = facts} h p = rw h.lists (members-mem th.producers facts p)
+pub fact_mem : {th : Theory} {s facts : Set} {b : Bases} {w : List ℕ} {c : Cone} → Held th s facts b w c → (p : ℕ) → Mem p (facts_of b w c.facts) ↔ ((p < th.producers) × Is (facts p))
+fact_mem {th} {facts = facts} h p = rw h.lists (members_mem th.producers facts p)

@@ -3,20 +3,20 @@ use Rattle.std.specs.Prelude.{◌≡◌, ◌↔◌, Bool, true, false, ◌&&◌,
 use Rattle.theory.specs.Sets.{Is, Set, Mem, any, filled, members}
 use Rattle.theory.specs.Counts.{Distinct}
 use Rattle.theory.specs.Theory.{Theory, Kind}
-use Rattle.theory.specs.Edges.{bodyCone}
-use Rattle.theory.specs.Founded.{cyclic, cyclicCone}
+use Rattle.theory.specs.Edges.{body_cone}
+use Rattle.theory.specs.Founded.{cyclic, cyclic_cone}
 use Rattle.area.specs.declared.Bases.{Bases}
-use Rattle.area.specs.Views.{markIn, flagAt}
+use Rattle.area.specs.Views.{mark_in, flag_at}
 use Rattle.cones.specs.declared.Cone.{Cone}
 use Rattle.cones.specs.declared.Coned.{Coned}
 use Rattle.cones.specs.declared.Coned.TheVariants.{Done, Absorbed}
 
 -- the mark of a node, the first so many nodes of the cone's list, and the first so many facts
-abbrev pub nodeMark : Bases → List ℕ → ℕ → ℕ
-nodeMark b w n = markIn b w (b.atoms + n)
+abbrev pub node_mark : Bases → List ℕ → ℕ → ℕ
+node_mark b w n = mark_in b w (b.atoms + n)
 
-abbrev pub nodesOf : Bases → List ℕ → ℕ → List ℕ
-nodesOf b w n = take n (drop b.body_nodes w)
+abbrev pub nodes_of : Bases → List ℕ → ℕ → List ℕ
+nodes_of b w n = take n (drop b.body_nodes w)
 
 abbrev pub facts_of : Bases → List ℕ → ℕ → List ℕ
 facts_of b w n = take n (drop b.fact_rows w)
@@ -27,23 +27,23 @@ module _ (th : Theory) where
   picked false heads = filled heads
   picked true heads = any (cyclic th) heads
 
-  abbrev pub wantedBy : Bool → Set
-  wantedBy cyclicOnly p = picked cyclicOnly (th.heads p)
+  abbrev pub wanted_by : Bool → Set
+  wanted_by cyclic_only p = picked cyclic_only (th.heads p)
 
   -- the facts with such heads
-  abbrev pub factBy : Bool → Set
-  factBy cyclicOnly p = eqb (th.body p) 0 && wantedBy cyclicOnly p
+  abbrev pub fact_by : Bool → Set
+  fact_by cyclic_only p = eqb (th.body p) 0 && wanted_by cyclic_only p
 
   -- the flags of the cyclic atoms
   abbrev pub Flagged : Bases → List ℕ → Type 0
-  Flagged b w = (a : ℕ) → a < th.atoms → (flagAt b w a ≡ 1) ↔ Is (cyclic th a)
+  Flagged b w = (a : ℕ) → a < th.atoms → (flag_at b w a ≡ 1) ↔ Is (cyclic th a)
 
   -- the set s of nodes: a mark each, 1 in s and 0 outside, and a list of them without repeats
   pub record Found (s : Set) (b : Bases) (w : List ℕ) (count : ℕ) : Type 0 where
-    pub marks : (n : ℕ) → n < th.nodes → nodeMark b w n ≡ cond (s n) 1 0
+    pub marks : (n : ℕ) → n < th.nodes → node_mark b w n ≡ cond (s n) 1 0
     pub within : count ≤ th.nodes
-    pub once : Distinct (nodesOf b w count)
-    pub lists : (n : ℕ) → Mem n (nodesOf b w count) ↔ Is (s n)
+    pub once : Distinct (nodes_of b w count)
+    pub lists : (n : ℕ) → Mem n (nodes_of b w count) ↔ Is (s n)
 
 -- what a cone's call changes nothing of: the length, the row tables, and the flags
 pub record Kept (b : Bases) (w w' : List ℕ) : Type 0 where
@@ -58,10 +58,10 @@ pub record Held (th : Theory) (s facts : Set) (b : Bases) (w : List ℕ) (c : Co
   pub lists : facts_of b w c.facts ≡ members th.producers facts
 
 -- the body cone, none of whose nodes is absorbed; or an absorbed node of it
-unfoldable pub bodyConed : Theory → Bases → List ℕ → Coned → Type 0
-bodyConed th b w (Done count) = Found th (bodyCone th) b w count × ((n : ℕ) → Is (bodyCone th n) → th.kind n ≡ Kind.Absorbed → ⊥)
-bodyConed th b w (Absorbed n) = (n < th.nodes) × Is (bodyCone th n) × (th.kind n ≡ Kind.Absorbed)
+unfoldable pub body_coned : Theory → Bases → List ℕ → Coned → Type 0
+body_coned th b w (Done count) = Found th (body_cone th) b w count × ((n : ℕ) → Is (body_cone th n) → th.kind n ≡ Kind.Absorbed → ⊥)
+body_coned th b w (Absorbed n) = (n < th.nodes) × Is (body_cone th n) × (th.kind n ≡ Kind.Absorbed)
 
 -- the cyclic cone, and the facts with a cyclic head
-abbrev pub cyclicConed : Theory → Bases → List ℕ → Cone → Type 0
-cyclicConed th b w c = Held th (cyclicCone th) (λ p. eqb (th.body p) 0 && any (cyclic th) (th.heads p)) b w c
+abbrev pub cyclic_coned : Theory → Bases → List ℕ → Cone → Type 0
+cyclic_coned th b w c = Held th (cyclic_cone th) (λ p. eqb (th.body p) 0 && any (cyclic th) (th.heads p)) b w c

@@ -8,7 +8,7 @@ use Rattle.theory.specs.Edges.{cone}
 use Rattle.area.specs.declared.Bases.{Bases}
 use Rattle.area.specs.Layout.{Laid}
 use Rattle.cones.specs.declared.Cone.{Cone}
-use Rattle.cones.specs.Cones.{nodeMark, nodesOf, facts_of, wantedBy, factBy}
+use Rattle.cones.specs.Cones.{node_mark, nodes_of, facts_of, wanted_by, fact_by}
 
 module _ (th : Theory) (wanted : Set) where
   -- n is the body of a wanted producer below p, or a leaf of a node in begun
@@ -43,14 +43,14 @@ pub record Searching (lim : ℕ) (b : Bases) (c : Stage) (w : List ℕ) (count :
   pub small : b.nodes ≤ lim
   pub behind : c.next ≤ count
   pub room : count ≤ b.nodes
-  pub finding : Finding c.theory c.wanted c.below (nodesOf b w count) (nodesOf b w c.next) todo (nodeMark b w)
+  pub finding : Finding c.theory c.wanted c.below (nodes_of b w count) (nodes_of b w c.next) todo (node_mark b w)
   pub beyond : drop b.fact_rows w ≡ c.rest
 
 -- the producers below p have been looked at: the bodies of the wanted ones are found, and the facts among them listed
-pub record Begun (lim : ℕ) (th : Theory) (cyclicOnly : Bool) (b : Bases) (w : List ℕ) (p : ℕ) (c : Cone) : Type 0 where
-  pub search : Searching lim b (stage th (wantedBy th cyclicOnly) p 0 (drop b.fact_rows w)) w c.nodes []
+pub record Begun (lim : ℕ) (th : Theory) (cyclic_only : Bool) (b : Bases) (w : List ℕ) (p : ℕ) (c : Cone) : Type 0 where
+  pub search : Searching lim b (stage th (wanted_by th cyclic_only) p 0 (drop b.fact_rows w)) w c.nodes []
   pub producers : b.producers ≡ th.producers
   pub few : b.producers ≤ lim
   pub low : p ≤ th.producers
   pub listed : c.facts ≤ p
-  pub facts : facts_of b w c.facts ≡ members p (factBy th cyclicOnly)
+  pub facts : facts_of b w c.facts ≡ members p (fact_by th cyclic_only)

@@ -4,13 +4,13 @@ ghost use Rattle.std.specs.Prelude.{◌≡◌, true, ◌&&◌, [], ◌∷◌, �
 ghost use Rattle.theory.specs.Sets.{Mem, any};
 ghost use Rattle.theory.specs.Theory.{absorbed};
 ghost use Rattle.theory.specs.Founded.{cyclic};
-ghost use Rattle.theory.specs.Words.{chain, theoryOf};
+ghost use Rattle.theory.specs.Words.{chain, theory_of};
 ghost use Rattle.theory.specs.Links.{MeetsOnce};
-ghost use Rattle.theory.specs.Edges.{cone, bodyCone};
+ghost use Rattle.theory.specs.Edges.{cone, body_cone};
 ghost use Rattle.theory.specs.Accepted.{Accepted, edition1};
 ghost use Rattle.theory.specs.Drive.{Follows, Drives};
-ghost use Rattle.area.specs.Layout.{Laid, basesOf, Based};
-ghost use Rattle.cones.specs.Cones.{nodeMark, wantedBy, factBy, Flagged, Found, Kept, Held, bodyConed, cyclicConed};
+ghost use Rattle.area.specs.Layout.{Laid, bases_of, Based};
+ghost use Rattle.cones.specs.Cones.{node_mark, wanted_by, fact_by, Flagged, Found, Kept, Held, body_coned, cyclic_coned};
 ghost use Rattle.cones.specs.Finding.{Searching, Begun};
 
 use area::Bases;
@@ -31,9 +31,9 @@ pub enum Coned {
 
 // Whether a chain of heads has a cyclic one. It is gone along to its end: which head is the first cyclic one cannot be foreseen.
 fn cyclic_head(graph: &[u16], work: &[u16], b: Bases, first: usize) -> bool
-    requires accepted { Accepted edition1 graph.now × Based graph.now (length work.now) b × Flagged (theoryOf graph.now) b work.now }
-    requires meets_once { MeetsOnce graph.now first × ((a : ℕ) → Mem a (chain graph.now first) → a < (theoryOf graph.now).atoms) }
-    ensures { result ≡ any (cyclic (theoryOf graph.now)) (chain graph.now first) }
+    requires accepted { Accepted edition1 graph.now × Based graph.now (length work.now) b × Flagged (theory_of graph.now) b work.now }
+    requires meets_once { MeetsOnce graph.now first × ((a : ℕ) → Mem a (chain graph.now first) → a < (theory_of graph.now).atoms) }
+    ensures { result ≡ any (cyclic (theory_of graph.now)) (chain graph.now first) }
 {
     let from = graph::links_from(graph);
     let mut found = false;
@@ -48,9 +48,9 @@ fn cyclic_head(graph: &[u16], work: &[u16], b: Bases, first: usize) -> bool
 
 // Whether a cone starts from a producer: some head, or some cyclic head.
 fn wanted(graph: &[u16], work: &[u16], b: Bases, cyclic_only: bool, p: usize) -> bool
-    requires accepted { Accepted edition1 graph.now × Based graph.now (length work.now) b × (p < (theoryOf graph.now).producers) }
-    requires flagged { cyclic_only ≡ true → Flagged (theoryOf graph.now) b work.now }
-    ensures { result ≡ wantedBy (theoryOf graph.now) cyclic_only p }
+    requires accepted { Accepted edition1 graph.now × Based graph.now (length work.now) b × (p < (theory_of graph.now).producers) }
+    requires flagged { cyclic_only ≡ true → Flagged (theory_of graph.now) b work.now }
+    ensures { result ≡ wanted_by (theory_of graph.now) cyclic_only p }
 {
     let first = graph::first_head(graph, p);
     if cyclic_only {
@@ -90,10 +90,10 @@ fn include_chain(graph: &[u16], work: &mut [u16], b: Bases, first: usize, count:
 
 // Producer p: the body of a wanted one is included, and a wanted fact is listed.
 fn begin_at(graph: &[u16], work: &mut [u16], b: Bases, cyclic_only: bool, p: usize, c: Cone) -> Cone
-    requires accepted { Accepted edition1 graph.now × Based graph.now (length work.old) b × (p < (theoryOf graph.now).producers) }
-    requires flagged { cyclic_only ≡ true → Flagged (theoryOf graph.now) b work.old }
-    requires begun { Begun 65536 (theoryOf graph.now) cyclic_only b work.old p c }
-    ensures { Begun 65536 (theoryOf graph.now) cyclic_only b work.new (p + 1) result × Kept b work.old work.new }
+    requires accepted { Accepted edition1 graph.now × Based graph.now (length work.old) b × (p < (theory_of graph.now).producers) }
+    requires flagged { cyclic_only ≡ true → Flagged (theory_of graph.now) b work.old }
+    requires begun { Begun 65536 (theory_of graph.now) cyclic_only b work.old p c }
+    ensures { Begun 65536 (theory_of graph.now) cyclic_only b work.new (p + 1) result × Kept b work.old work.new }
 {
     if !wanted(graph, work, b, cyclic_only, p) {
         return c;
@@ -115,9 +115,9 @@ fn begin_at(graph: &[u16], work: &mut [u16], b: Bases, cyclic_only: bool, p: usi
 // Every producer in turn; no node is marked yet.
 fn begin(graph: &[u16], work: &mut [u16], b: Bases, cyclic_only: bool) -> Cone
     requires accepted { Accepted edition1 graph.now × Based graph.now (length work.old) b }
-    requires flagged { cyclic_only ≡ true → Flagged (theoryOf graph.now) b work.old }
-    requires begun { Begun 65536 (theoryOf graph.now) cyclic_only b work.old 0 (record { nodes = 0; facts = 0 }) }
-    ensures { Begun 65536 (theoryOf graph.now) cyclic_only b work.new (theoryOf graph.now).producers result × Kept b work.old work.new }
+    requires flagged { cyclic_only ≡ true → Flagged (theory_of graph.now) b work.old }
+    requires begun { Begun 65536 (theory_of graph.now) cyclic_only b work.old 0 (record { nodes = 0; facts = 0 }) }
+    ensures { Begun 65536 (theory_of graph.now) cyclic_only b work.new (theory_of graph.now).producers result × Kept b work.old work.new }
 {
     let mut c = Cone { nodes: 0, facts: 0 };
     let mut p: usize = 0;
@@ -131,7 +131,7 @@ fn begin(graph: &[u16], work: &mut [u16], b: Bases, cyclic_only: bool) -> Cone
 // No node is in the cone. The marks of atoms are not read here.
 fn clear_marks(work: &mut [u16], b: Bases)
     requires { Laid b × (b.end ≤ length work.old) }
-    ensures { Kept b work.old work.new × ((n : ℕ) → n < b.nodes → nodeMark b work.new n ≡ 0) }
+    ensures { Kept b work.old work.new × ((n : ℕ) → n < b.nodes → node_mark b work.new n ≡ 0) }
 {
     let from = b.states + b.atoms;
     let to = from + b.nodes;
@@ -141,8 +141,8 @@ fn clear_marks(work: &mut [u16], b: Bases)
 // The cone: first the bodies, then the leaves of each node of the list in turn. In an accepted graph only And and Or have leaves.
 fn find_in(graph: &[u16], work: &mut [u16], b: Bases, cyclic_only: bool) -> Cone
     requires accepted { Accepted edition1 graph.now × Based graph.now (length work.old) b }
-    requires flagged { cyclic_only ≡ true → Flagged (theoryOf graph.now) b work.old }
-    ensures { Held (theoryOf graph.now) (cone (theoryOf graph.now) (wantedBy (theoryOf graph.now) cyclic_only)) (factBy (theoryOf graph.now) cyclic_only) b work.new result × Kept b work.old work.new }
+    requires flagged { cyclic_only ≡ true → Flagged (theory_of graph.now) b work.old }
+    ensures { Held (theory_of graph.now) (cone (theory_of graph.now) (wanted_by (theory_of graph.now) cyclic_only)) (fact_by (theory_of graph.now) cyclic_only) b work.new result × Kept b work.old work.new }
 {
     clear_marks(work, b);
     let c = begin(graph, work, b, cyclic_only);
@@ -162,9 +162,9 @@ fn find_in(graph: &[u16], work: &mut [u16], b: Bases, cyclic_only: bool) -> Cone
 
 // The same, with the bases worked out here (`area::bases_of` says why).
 fn find(graph: &[u16], work: &mut [u16], cyclic_only: bool) -> Cone
-    requires accepted { Accepted edition1 graph.now × Based graph.now (length work.old) (basesOf graph.now (length work.old)) }
-    requires flagged { cyclic_only ≡ true → Flagged (theoryOf graph.now) (basesOf graph.now (length work.old)) work.old }
-    ensures { Held (theoryOf graph.now) (cone (theoryOf graph.now) (wantedBy (theoryOf graph.now) cyclic_only)) (factBy (theoryOf graph.now) cyclic_only) (basesOf graph.now (length work.old)) work.new result × Kept (basesOf graph.now (length work.old)) work.old work.new }
+    requires accepted { Accepted edition1 graph.now × Based graph.now (length work.old) (bases_of graph.now (length work.old)) }
+    requires flagged { cyclic_only ≡ true → Flagged (theory_of graph.now) (bases_of graph.now (length work.old)) work.old }
+    ensures { Held (theory_of graph.now) (cone (theory_of graph.now) (wanted_by (theory_of graph.now) cyclic_only)) (fact_by (theory_of graph.now) cyclic_only) (bases_of graph.now (length work.old)) work.new result × Kept (bases_of graph.now (length work.old)) work.old work.new }
 {
     let words = work.len();
     find_in(graph, work, area::bases_of(graph, words), cyclic_only)
@@ -172,9 +172,9 @@ fn find(graph: &[u16], work: &mut [u16], cyclic_only: bool) -> Cone
 
 // Whether a node is absorbed and in the body cone.
 fn refused_at(graph: &[u16], work: &[u16], b: Bases, count: usize, n: usize) -> bool
-    requires accepted { Accepted edition1 graph.now × Based graph.now (length work.now) b × (n < (theoryOf graph.now).nodes) }
-    requires found { Found (theoryOf graph.now) (bodyCone (theoryOf graph.now)) b work.now count }
-    ensures { result ≡ bodyCone (theoryOf graph.now) n && absorbed ((theoryOf graph.now).kind n) }
+    requires accepted { Accepted edition1 graph.now × Based graph.now (length work.now) b × (n < (theory_of graph.now).nodes) }
+    requires found { Found (theory_of graph.now) (body_cone (theory_of graph.now)) b work.now count }
+    ensures { result ≡ body_cone (theory_of graph.now) n && absorbed ((theory_of graph.now).kind n) }
 {
     if graph::at(work, b.states + (b.atoms + n)) == 0 {
         return false;
@@ -185,8 +185,8 @@ fn refused_at(graph: &[u16], work: &[u16], b: Bases, count: usize, n: usize) -> 
 // The lowest absorbed node of the body cone, if there is one (refusal 12).
 fn refuse(graph: &[u16], work: &[u16], b: Bases, count: usize) -> Coned
     requires accepted { Accepted edition1 graph.now × Based graph.now (length work.now) b }
-    requires found { Found (theoryOf graph.now) (bodyCone (theoryOf graph.now)) b work.now count }
-    ensures { bodyConed (theoryOf graph.now) b work.now result }
+    requires found { Found (theory_of graph.now) (body_cone (theory_of graph.now)) b work.now count }
+    ensures { body_coned (theory_of graph.now) b work.now result }
 {
     let mut n: usize = 0;
     while n < b.nodes {
@@ -201,7 +201,7 @@ fn refuse(graph: &[u16], work: &[u16], b: Bases, count: usize) -> Coned
 // The body cone (document 01: the first cone).
 pub fn body_cone(graph: &[u16], work: &mut [u16], b: Bases) -> Coned
     requires { Accepted edition1 graph.now × Based graph.now (length work.old) b }
-    ensures { Kept b work.old work.new × bodyConed (theoryOf graph.now) b work.new result }
+    ensures { Kept b work.old work.new × body_coned (theory_of graph.now) b work.new result }
 {
     let c = find(graph, work, false);
     refuse(graph, work, b, c.nodes)
@@ -209,8 +209,8 @@ pub fn body_cone(graph: &[u16], work: &mut [u16], b: Bases) -> Coned
 
 // The cyclic cone (document 01: the second cone).
 pub fn cyclic_cone(graph: &[u16], work: &mut [u16], b: Bases) -> Cone
-    requires { Accepted edition1 graph.now × Based graph.now (length work.old) b × Flagged (theoryOf graph.now) b work.old }
-    ensures { Kept b work.old work.new × cyclicConed (theoryOf graph.now) b work.new result }
+    requires { Accepted edition1 graph.now × Based graph.now (length work.old) b × Flagged (theory_of graph.now) b work.old }
+    ensures { Kept b work.old work.new × cyclic_coned (theory_of graph.now) b work.new result }
 {
     find(graph, work, true)
 }

@@ -5,13 +5,13 @@ ghost use Rattle.std.specs.Prelude.{◌≡◌, true, ◌&&◌, [], ◌∷◌, �
 ghost use Rattle.theory.specs.Sets.{Mem, any};
 ghost use Rattle.theory.specs.Theory.{absorbed};
 ghost use Rattle.theory.specs.Founded.{cyclic};
-ghost use Rattle.theory.specs.Words.{chain, theoryOf};
+ghost use Rattle.theory.specs.Words.{chain, theory_of};
 ghost use Rattle.theory.specs.Links.{MeetsOnce};
-ghost use Rattle.theory.specs.Edges.{cone, bodyCone};
+ghost use Rattle.theory.specs.Edges.{cone, body_cone};
 ghost use Rattle.theory.specs.Accepted.{Accepted, edition2};
 ghost use Rattle.theory.specs.Drive.{Follows, Drives};
-ghost use Rattle.area.specs.Layout.{Laid, basesOf, Based};
-ghost use Rattle.cones.specs.Cones.{nodeMark, wantedBy, factBy, Flagged, Found, Kept, Held, bodyConed, cyclicConed};
+ghost use Rattle.area.specs.Layout.{Laid, bases_of, Based};
+ghost use Rattle.cones.specs.Cones.{node_mark, wanted_by, fact_by, Flagged, Found, Kept, Held, body_coned, cyclic_coned};
 ghost use Rattle.cones.specs.Finding.{Searching, Begun};
 
 use area::Bases;
@@ -19,9 +19,9 @@ use cones::{Cone, Coned};
 
 // Whether a chain of heads has a cyclic one. It is gone along to its end: which head is the first cyclic one cannot be foreseen.
 fn cyclic_head(graph: &[u32], work: &[u32], b: Bases, first: usize) -> bool
-    requires accepted { Accepted edition2 graph.now × Based graph.now (length work.now) b × Flagged (theoryOf graph.now) b work.now }
-    requires meets_once { MeetsOnce graph.now first × ((a : ℕ) → Mem a (chain graph.now first) → a < (theoryOf graph.now).atoms) }
-    ensures { result ≡ any (cyclic (theoryOf graph.now)) (chain graph.now first) }
+    requires accepted { Accepted edition2 graph.now × Based graph.now (length work.now) b × Flagged (theory_of graph.now) b work.now }
+    requires meets_once { MeetsOnce graph.now first × ((a : ℕ) → Mem a (chain graph.now first) → a < (theory_of graph.now).atoms) }
+    ensures { result ≡ any (cyclic (theory_of graph.now)) (chain graph.now first) }
 {
     let from = graph32::links_from(graph);
     let mut found = false;
@@ -36,9 +36,9 @@ fn cyclic_head(graph: &[u32], work: &[u32], b: Bases, first: usize) -> bool
 
 // Whether a cone starts from a producer: some head, or some cyclic head.
 fn wanted(graph: &[u32], work: &[u32], b: Bases, cyclic_only: bool, p: usize) -> bool
-    requires accepted { Accepted edition2 graph.now × Based graph.now (length work.now) b × (p < (theoryOf graph.now).producers) }
-    requires flagged { cyclic_only ≡ true → Flagged (theoryOf graph.now) b work.now }
-    ensures { result ≡ wantedBy (theoryOf graph.now) cyclic_only p }
+    requires accepted { Accepted edition2 graph.now × Based graph.now (length work.now) b × (p < (theory_of graph.now).producers) }
+    requires flagged { cyclic_only ≡ true → Flagged (theory_of graph.now) b work.now }
+    ensures { result ≡ wanted_by (theory_of graph.now) cyclic_only p }
 {
     let first = graph32::first_head(graph, p);
     if cyclic_only {
@@ -78,10 +78,10 @@ fn include_chain(graph: &[u32], work: &mut [u32], b: Bases, first: usize, count:
 
 // Producer p: the body of a wanted one is included, and a wanted fact is listed.
 fn begin_at(graph: &[u32], work: &mut [u32], b: Bases, cyclic_only: bool, p: usize, c: Cone) -> Cone
-    requires accepted { Accepted edition2 graph.now × Based graph.now (length work.old) b × (p < (theoryOf graph.now).producers) }
-    requires flagged { cyclic_only ≡ true → Flagged (theoryOf graph.now) b work.old }
-    requires begun { Begun 4294967296 (theoryOf graph.now) cyclic_only b work.old p c }
-    ensures { Begun 4294967296 (theoryOf graph.now) cyclic_only b work.new (p + 1) result × Kept b work.old work.new }
+    requires accepted { Accepted edition2 graph.now × Based graph.now (length work.old) b × (p < (theory_of graph.now).producers) }
+    requires flagged { cyclic_only ≡ true → Flagged (theory_of graph.now) b work.old }
+    requires begun { Begun 4294967296 (theory_of graph.now) cyclic_only b work.old p c }
+    ensures { Begun 4294967296 (theory_of graph.now) cyclic_only b work.new (p + 1) result × Kept b work.old work.new }
 {
     if !wanted(graph, work, b, cyclic_only, p) {
         return c;
@@ -103,9 +103,9 @@ fn begin_at(graph: &[u32], work: &mut [u32], b: Bases, cyclic_only: bool, p: usi
 // Every producer in turn; no node is marked yet.
 fn begin(graph: &[u32], work: &mut [u32], b: Bases, cyclic_only: bool) -> Cone
     requires accepted { Accepted edition2 graph.now × Based graph.now (length work.old) b }
-    requires flagged { cyclic_only ≡ true → Flagged (theoryOf graph.now) b work.old }
-    requires begun { Begun 4294967296 (theoryOf graph.now) cyclic_only b work.old 0 (record { nodes = 0; facts = 0 }) }
-    ensures { Begun 4294967296 (theoryOf graph.now) cyclic_only b work.new (theoryOf graph.now).producers result × Kept b work.old work.new }
+    requires flagged { cyclic_only ≡ true → Flagged (theory_of graph.now) b work.old }
+    requires begun { Begun 4294967296 (theory_of graph.now) cyclic_only b work.old 0 (record { nodes = 0; facts = 0 }) }
+    ensures { Begun 4294967296 (theory_of graph.now) cyclic_only b work.new (theory_of graph.now).producers result × Kept b work.old work.new }
 {
     let mut c = Cone { nodes: 0, facts: 0 };
     let mut p: usize = 0;
@@ -119,7 +119,7 @@ fn begin(graph: &[u32], work: &mut [u32], b: Bases, cyclic_only: bool) -> Cone
 // No node is in the cone. The marks of atoms are not read here.
 fn clear_marks(work: &mut [u32], b: Bases)
     requires { Laid b × (b.end ≤ length work.old) }
-    ensures { Kept b work.old work.new × ((n : ℕ) → n < b.nodes → nodeMark b work.new n ≡ 0) }
+    ensures { Kept b work.old work.new × ((n : ℕ) → n < b.nodes → node_mark b work.new n ≡ 0) }
 {
     let from = b.states + b.atoms;
     let to = from + b.nodes;
@@ -129,8 +129,8 @@ fn clear_marks(work: &mut [u32], b: Bases)
 // The cone: first the bodies, then the leaves of each node of the list in turn. In an accepted graph only And and Or have leaves.
 fn find_in(graph: &[u32], work: &mut [u32], b: Bases, cyclic_only: bool) -> Cone
     requires accepted { Accepted edition2 graph.now × Based graph.now (length work.old) b }
-    requires flagged { cyclic_only ≡ true → Flagged (theoryOf graph.now) b work.old }
-    ensures { Held (theoryOf graph.now) (cone (theoryOf graph.now) (wantedBy (theoryOf graph.now) cyclic_only)) (factBy (theoryOf graph.now) cyclic_only) b work.new result × Kept b work.old work.new }
+    requires flagged { cyclic_only ≡ true → Flagged (theory_of graph.now) b work.old }
+    ensures { Held (theory_of graph.now) (cone (theory_of graph.now) (wanted_by (theory_of graph.now) cyclic_only)) (fact_by (theory_of graph.now) cyclic_only) b work.new result × Kept b work.old work.new }
 {
     clear_marks(work, b);
     let c = begin(graph, work, b, cyclic_only);
@@ -150,9 +150,9 @@ fn find_in(graph: &[u32], work: &mut [u32], b: Bases, cyclic_only: bool) -> Cone
 
 // The same, with the bases worked out here (`area32::bases_of` says why).
 fn find(graph: &[u32], work: &mut [u32], cyclic_only: bool) -> Cone
-    requires accepted { Accepted edition2 graph.now × Based graph.now (length work.old) (basesOf graph.now (length work.old)) }
-    requires flagged { cyclic_only ≡ true → Flagged (theoryOf graph.now) (basesOf graph.now (length work.old)) work.old }
-    ensures { Held (theoryOf graph.now) (cone (theoryOf graph.now) (wantedBy (theoryOf graph.now) cyclic_only)) (factBy (theoryOf graph.now) cyclic_only) (basesOf graph.now (length work.old)) work.new result × Kept (basesOf graph.now (length work.old)) work.old work.new }
+    requires accepted { Accepted edition2 graph.now × Based graph.now (length work.old) (bases_of graph.now (length work.old)) }
+    requires flagged { cyclic_only ≡ true → Flagged (theory_of graph.now) (bases_of graph.now (length work.old)) work.old }
+    ensures { Held (theory_of graph.now) (cone (theory_of graph.now) (wanted_by (theory_of graph.now) cyclic_only)) (fact_by (theory_of graph.now) cyclic_only) (bases_of graph.now (length work.old)) work.new result × Kept (bases_of graph.now (length work.old)) work.old work.new }
 {
     let words = work.len();
     find_in(graph, work, area32::bases_of(graph, words), cyclic_only)
@@ -160,9 +160,9 @@ fn find(graph: &[u32], work: &mut [u32], cyclic_only: bool) -> Cone
 
 // Whether a node is absorbed and in the body cone.
 fn refused_at(graph: &[u32], work: &[u32], b: Bases, count: usize, n: usize) -> bool
-    requires accepted { Accepted edition2 graph.now × Based graph.now (length work.now) b × (n < (theoryOf graph.now).nodes) }
-    requires found { Found (theoryOf graph.now) (bodyCone (theoryOf graph.now)) b work.now count }
-    ensures { result ≡ bodyCone (theoryOf graph.now) n && absorbed ((theoryOf graph.now).kind n) }
+    requires accepted { Accepted edition2 graph.now × Based graph.now (length work.now) b × (n < (theory_of graph.now).nodes) }
+    requires found { Found (theory_of graph.now) (body_cone (theory_of graph.now)) b work.now count }
+    ensures { result ≡ body_cone (theory_of graph.now) n && absorbed ((theory_of graph.now).kind n) }
 {
     if graph32::at(work, b.states + (b.atoms + n)) == 0 {
         return false;
@@ -173,8 +173,8 @@ fn refused_at(graph: &[u32], work: &[u32], b: Bases, count: usize, n: usize) -> 
 // The lowest absorbed node of the body cone, if there is one (refusal 12).
 fn refuse(graph: &[u32], work: &[u32], b: Bases, count: usize) -> Coned
     requires accepted { Accepted edition2 graph.now × Based graph.now (length work.now) b }
-    requires found { Found (theoryOf graph.now) (bodyCone (theoryOf graph.now)) b work.now count }
-    ensures { bodyConed (theoryOf graph.now) b work.now result }
+    requires found { Found (theory_of graph.now) (body_cone (theory_of graph.now)) b work.now count }
+    ensures { body_coned (theory_of graph.now) b work.now result }
 {
     let mut n: usize = 0;
     while n < b.nodes {
@@ -189,7 +189,7 @@ fn refuse(graph: &[u32], work: &[u32], b: Bases, count: usize) -> Coned
 // The body cone (document 01: the first cone).
 pub fn body_cone(graph: &[u32], work: &mut [u32], b: Bases) -> Coned
     requires { Accepted edition2 graph.now × Based graph.now (length work.old) b }
-    ensures { Kept b work.old work.new × bodyConed (theoryOf graph.now) b work.new result }
+    ensures { Kept b work.old work.new × body_coned (theory_of graph.now) b work.new result }
 {
     let c = find(graph, work, false);
     refuse(graph, work, b, c.nodes)
@@ -197,8 +197,8 @@ pub fn body_cone(graph: &[u32], work: &mut [u32], b: Bases) -> Coned
 
 // The cyclic cone (document 01: the second cone).
 pub fn cyclic_cone(graph: &[u32], work: &mut [u32], b: Bases) -> Cone
-    requires { Accepted edition2 graph.now × Based graph.now (length work.old) b × Flagged (theoryOf graph.now) b work.old }
-    ensures { Kept b work.old work.new × cyclicConed (theoryOf graph.now) b work.new result }
+    requires { Accepted edition2 graph.now × Based graph.now (length work.old) b × Flagged (theory_of graph.now) b work.old }
+    ensures { Kept b work.old work.new × cyclic_coned (theory_of graph.now) b work.new result }
 {
     find(graph, work, true)
 }

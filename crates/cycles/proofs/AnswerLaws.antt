@@ -9,46 +9,46 @@ use borrow.Author.Tests.{lt-ltb, le-ltb}
 use lib.Dec.{ltb}
 use lib.ListN.{drop}
 use Rattle.theory.specs.Sets.{everyone}
-use Rattle.theory.specs.Counts.{countIn}
+use Rattle.theory.specs.Counts.{count_in}
 use Rattle.theory.specs.Walks.{Walk, edge, next}
-use Rattle.theory.specs.Words.{theoryOf}
+use Rattle.theory.specs.Words.{theory_of}
 use Rattle.theory.specs.Edges.{vertices, preds}
-use Rattle.theory.specs.Founded.{hasCycle}
+use Rattle.theory.specs.Founded.{has_cycle}
 use Rattle.theory.specs.Closure.{every}
 use Rattle.theory.specs.Worklist.{Started, Worklist}
 use Rattle.theory.specs.Prefix.{upto}
 use Rattle.theory.proofs.SetLaws.{is_false}
-use Rattle.theory.proofs.EdgeLaws.{preds-low}
-use Rattle.theory.proofs.CycleLaws.{hasCycle-walk}
-use Rattle.theory.proofs.RowLaws.{preds-from}
-use Rattle.theory.proofs.PrefixLaws.{upto-length}
-use Rattle.theory.proofs.WorklistLaws.{worklist-start}
-use Rattle.theory.proofs.KahnLaws.{kahn-open, kahn-closed}
+use Rattle.theory.proofs.EdgeLaws.{preds_low}
+use Rattle.theory.proofs.CycleLaws.{has_cycle_walk}
+use Rattle.theory.proofs.RowLaws.{preds_from}
+use Rattle.theory.proofs.PrefixLaws.{upto_length}
+use Rattle.theory.proofs.WorklistLaws.{worklist_start}
+use Rattle.theory.proofs.KahnLaws.{kahn_open, kahn_closed}
 use Rattle.area.specs.declared.Bases.{Bases}
-use Rattle.area.proofs.PartLaws.{frame_at, frame-less}
-use Rattle.area.specs.Views.{countAt, queued}
+use Rattle.area.proofs.PartLaws.{frame_at, frame_less}
+use Rattle.area.specs.Views.{count_at, queued}
 use Rattle.events.specs.Held.{Tables}
 use Rattle.events.specs.Run.{Running, Ran}
-use Rattle.events.proofs.VertexLaws.{tables-same}
+use Rattle.events.proofs.VertexLaws.{tables_same}
 use Rattle.cycles.specs.Held.{Counting, Looked}
-use Rattle.cycles.proofs.DegreeLaws.{degree-all}
+use Rattle.cycles.proofs.DegreeLaws.{degree_all}
 
-module _ {lim : ℕ} (ws : List ℕ) {b : Bases} {w w' : List ℕ} {t : ℕ} (c : Counting lim (theoryOf ws) b w (theoryOf ws).producers []) (k : Looked b w w' (b.atoms + b.nodes) t) where
-  pub tables-looked : Tables (theoryOf ws) b w'
-  tables-looked = let l = c.shape.laid in tables-same (frame-less b.queue w w' k.before b.states (omega arith)) k.size c.shape.tables
+module _ {lim : ℕ} (ws : List ℕ) {b : Bases} {w w' : List ℕ} {t : ℕ} (c : Counting lim (theory_of ws) b w (theory_of ws).producers []) (k : Looked b w w' (b.atoms + b.nodes) t) where
+  pub tables_looked : Tables (theory_of ws) b w'
+  tables_looked = let l = c.shape.laid in tables_same (frame_less b.queue w w' k.before b.states (omega arith)) k.size c.shape.tables
 
-  count_same : (v : ℕ) → v < b.atoms + b.nodes → countAt b w' v ≡ countAt b w v
+  count_same : (v : ℕ) → v < b.atoms + b.nodes → count_at b w' v ≡ count_at b w v
   count_same v h = let l = c.shape.laid in frame_at b.queue w w' k.before (b.dependencies + v) (omega arith)
 
-  started : Started (b.atoms + b.nodes) (λ v. every) (preds (theoryOf ws) everyone) (queued b w' t) (countAt b w')
-  unfolding countIn
+  started : Started (b.atoms + b.nodes) (λ v. every) (preds (theory_of ws) everyone) (queued b w' t) (count_at b w')
+  unfolding count_in
   started = record {
     distinct = k.distinct;
     low = λ v m. ((k.first v).0 m).0;
-    dead-count = λ v h e. let z : ◌≡◌ {A = ℕ} 0 1 = cc in absurd (omega arith);
-    free-count = λ v h e. let z : ◌≡◌ {A = ℕ} 0 1 = cc in absurd (omega arith);
-    single-count = λ v h e. let z : ◌≡◌ {A = ℕ} 0 1 = cc in absurd (omega arith);
-    every-count = λ v h e. omega (arith, count_same v h, c.tally v h, degree-all (theoryOf ws) v);
+    dead_count = λ v h e. let z : ◌≡◌ {A = ℕ} 0 1 = cc in absurd (omega arith);
+    free_count = λ v h e. let z : ◌≡◌ {A = ℕ} 0 1 = cc in absurd (omega arith);
+    single_count = λ v h e. let z : ◌≡◌ {A = ℕ} 0 1 = cc in absurd (omega arith);
+    every_count = λ v h e. omega (arith, count_same v h, c.tally v h, degree_all (theory_of ws) v);
     first = λ v h. ((λ m. (count_same v h ∙ ((k.first v).0 m).1, λ e. let z : ◌≡◌ {A = ℕ} 0 1 = cc in omega arith)), λ p. (k.first v).1 (h, sym (count_same v h) ∙ p.0));
   }
 
@@ -64,30 +64,30 @@ module _ {lim : ℕ} (ws : List ℕ) {b : Bases} {w w' : List ℕ} {t : ℕ} (c 
           small = omega arith;
           fore = omega arith;
           front = λ i h. refl;
-          settling = worklist-start (b.atoms + b.nodes) (λ v. every) (preds (theoryOf ws) everyone) started;
+          settling = worklist_start (b.atoms + b.nodes) (λ v. every) (preds (theory_of ws) everyone) started;
         };
       }
 
-  pub answer : {w'' : List ℕ} {n : ℕ} → Ran lim ws b w' w'' 0 t n n → ltb n (b.atoms + b.nodes) ≡ hasCycle (theoryOf ws)
+  pub answer : {w'' : List ℕ} {n : ℕ} → Ran lim ws b w' w'' 0 t n n → ltb n (b.atoms + b.nodes) ≡ has_cycle (theory_of ws)
   unfolding vertices
   answer {w''} {n} r = go (dec_lt n (b.atoms + b.nodes))
     where
-      list : Worklist (b.atoms + b.nodes) (λ v. every) (preds (theoryOf ws) everyone) (queued b w'' n) (queued b w'' n) [] (countAt b w'')
+      list : Worklist (b.atoms + b.nodes) (λ v. every) (preds (theory_of ws) everyone) (queued b w'' n) (queued b w'' n) [] (count_at b w'')
       list = (r.runs (λ v. every) running).held.settling
 
       -- a vertex of the bases is one of the theory
-      bound : b.atoms + b.nodes ≡ (theoryOf ws).atoms + (theoryOf ws).nodes
+      bound : b.atoms + b.nodes ≡ (theory_of ws).atoms + (theory_of ws).nodes
       bound = let x = c.shape.atoms in let y = c.shape.nodes in omega arith
 
-      target : {u v : ℕ} → Walk (preds (theoryOf ws) everyone) u v → v < (theoryOf ws).atoms + (theoryOf ws).nodes
-      target {u} {v} (edge m) = preds-low (theoryOf ws) everyone v u m
-      target {u} {v} (next {w = x} p m) = preds-low (theoryOf ws) everyone v x m
+      target : {u v : ℕ} → Walk (preds (theory_of ws) everyone) u v → v < (theory_of ws).atoms + (theory_of ws).nodes
+      target {u} {v} (edge m) = preds_low (theory_of ws) everyone v u m
+      target {u} {v} (next {w = x} p m) = preds_low (theory_of ws) everyone v x m
 
-      go : Dec (n < b.atoms + b.nodes) → ltb n (b.atoms + b.nodes) ≡ hasCycle (theoryOf ws)
+      go : Dec (n < b.atoms + b.nodes) → ltb n (b.atoms + b.nodes) ≡ has_cycle (theory_of ws)
       go (yes l) =
-          let x = kahn-closed (b.atoms + b.nodes) (preds (theoryOf ws) everyone) list (λ u v m. rw bound (preds-from (theoryOf ws) c.shape.ok u v m)) (omega (arith, upto-length n (drop b.queue w''))) in
-          lt-ltb n (b.atoms + b.nodes) l ∙ sym ((hasCycle-walk (theoryOf ws)).1 (x.0, target x.1, x.1))
+          let x = kahn_closed (b.atoms + b.nodes) (preds (theory_of ws) everyone) list (λ u v m. rw bound (preds_from (theory_of ws) c.shape.ok u v m)) (omega (arith, upto_length n (drop b.queue w''))) in
+          lt-ltb n (b.atoms + b.nodes) l ∙ sym ((has_cycle_walk (theory_of ws)).1 (x.0, target x.1, x.1))
       go (no l) =
           le-ltb n (b.atoms + b.nodes) (omega arith)
-          ∙ sym (is_false (hasCycle (theoryOf ws)) (λ p. let x = (hasCycle-walk (theoryOf ws)).0 p in
-          kahn-open (b.atoms + b.nodes) (preds (theoryOf ws) everyone) list (omega (arith, upto-length n (drop b.queue w''))) x.0 (rw bound x.1) x.2))
+          ∙ sym (is_false (has_cycle (theory_of ws)) (λ p. let x = (has_cycle_walk (theory_of ws)).0 p in
+          kahn_open (b.atoms + b.nodes) (preds (theory_of ws) everyone) list (omega (arith, upto_length n (drop b.queue w''))) x.0 (rw bound x.1) x.2))

@@ -11,17 +11,17 @@ use borrow.Author.Tests.{lt-ltb, le-ltb}
 use lib.Dec.{eqb}
 use lib.ListN.{length, length-append, length-map}
 use Rattle.theory.specs.Sets.{everyone}
-use Rattle.theory.specs.Counts.{countIn, occ}
+use Rattle.theory.specs.Counts.{count_in, occ}
 use Rattle.theory.specs.Theory.{Theory, Kind, joins}
 use Rattle.theory.specs.Words.{kind_of}
-use Rattle.theory.specs.Edges.{occurrences, bodyEntries, bodiesBelow, inputs, preds}
-use Rattle.theory.proofs.EdgeLaws.{preds-atom, preds-node}
-use Rattle.cycles.specs.Held.{degreeBy}
+use Rattle.theory.specs.Edges.{occurrences, body_entries, bodies_below, inputs, preds}
+use Rattle.theory.proofs.EdgeLaws.{preds_atom, preds_node}
+use Rattle.cycles.specs.Held.{degree_by}
 
-occurs-length : (x a : ℕ) (hs : List ℕ) → length (occurrences x a hs) ≡ occ a hs
-unfolding occurrences countIn
-occurs-length x a [] = refl
-occurs-length x a (h ∷ hs) = go (eqb a h) (occurs-length x a hs)
+occurs_length : (x a : ℕ) (hs : List ℕ) → length (occurrences x a hs) ≡ occ a hs
+unfolding occurrences count_in
+occurs_length x a [] = refl
+occurs_length x a (h ∷ hs) = go (eqb a h) (occurs_length x a hs)
   where
     go : (b : Bool) → length (occurrences x a hs) ≡ occ a hs → length (cond b (x ∷ occurrences x a hs) (occurrences x a hs)) ≡ cond b (suc (occ a hs)) (occ a hs)
     go true e = ap suc e
@@ -30,40 +30,40 @@ occurs-length x a (h ∷ hs) = go (eqb a h) (occurs-length x a hs)
 module _ (th : Theory) where
   -- ---- atoms
 
-  pub below-fact : (a p : ℕ) → th.body p ≡ 0 → length (bodiesBelow th a (suc p)) ≡ length (bodiesBelow th a p)
-  unfolding bodiesBelow bodyEntries
-  below-fact a p e = length-append (bodiesBelow th a p) (bodyEntries th a (th.body p) (th.heads p)) ∙ rw e (omega arith)
+  pub below_fact : (a p : ℕ) → th.body p ≡ 0 → length (bodies_below th a (suc p)) ≡ length (bodies_below th a p)
+  unfolding bodies_below body_entries
+  below_fact a p e = length-append (bodies_below th a p) (body_entries th a (th.body p) (th.heads p)) ∙ rw e (omega arith)
 
-  pub below-heads : (a p : ℕ) → th.body p ≢ 0 → length (bodiesBelow th a (suc p)) ≡ length (bodiesBelow th a p) + occ a (th.heads p)
-  unfolding bodiesBelow bodyEntries
-  below-heads a p n = length-append (bodiesBelow th a p) (bodyEntries th a (th.body p) (th.heads p)) ∙ ap (λ (k : ℕ). length (bodiesBelow th a p) + k) (go (th.body p) n)
+  pub below_heads : (a p : ℕ) → th.body p ≢ 0 → length (bodies_below th a (suc p)) ≡ length (bodies_below th a p) + occ a (th.heads p)
+  unfolding bodies_below body_entries
+  below_heads a p n = length-append (bodies_below th a p) (body_entries th a (th.body p) (th.heads p)) ∙ ap (λ (k : ℕ). length (bodies_below th a p) + k) (go (th.body p) n)
     where
-      go : (body : ℕ) → body ≢ 0 → length (bodyEntries th a body (th.heads p)) ≡ occ a (th.heads p)
+      go : (body : ℕ) → body ≢ 0 → length (body_entries th a body (th.heads p)) ≡ occ a (th.heads p)
       go zero z = absurd (z refl)
-      go (suc m) z = occurs-length (th.atoms + m) a (th.heads p)
+      go (suc m) z = occurs_length (th.atoms + m) a (th.heads p)
 
-  below-few : (a p q : ℕ) → p ≤ q → length (bodiesBelow th a p) ≤ length (bodiesBelow th a q)
-  unfolding bodiesBelow
-  below-few a p zero l = let e : p ≡ 0 = omega arith in omega (arith, ap (λ (n : ℕ). length (bodiesBelow th a n)) e)
-  below-few a p (suc q) l = go (ℕ_discrete p (suc q)) (below-few a p q)
+  below_few : (a p q : ℕ) → p ≤ q → length (bodies_below th a p) ≤ length (bodies_below th a q)
+  unfolding bodies_below
+  below_few a p zero l = let e : p ≡ 0 = omega arith in omega (arith, ap (λ (n : ℕ). length (bodies_below th a n)) e)
+  below_few a p (suc q) l = go (ℕ_discrete p (suc q)) (below_few a p q)
     where
-      go : Dec (p ≡ suc q) → (p ≤ q → length (bodiesBelow th a p) ≤ length (bodiesBelow th a q)) → length (bodiesBelow th a p) ≤ length (bodiesBelow th a (suc q))
-      go (yes e) few = omega (arith, ap (λ (n : ℕ). length (bodiesBelow th a n)) e)
-      go (no n) few = omega (arith, few (omega arith), length-append (bodiesBelow th a q) (bodyEntries th a (th.body q) (th.heads q)))
+      go : Dec (p ≡ suc q) → (p ≤ q → length (bodies_below th a p) ≤ length (bodies_below th a q)) → length (bodies_below th a p) ≤ length (bodies_below th a (suc q))
+      go (yes e) few = omega (arith, ap (λ (n : ℕ). length (bodies_below th a n)) e)
+      go (no n) few = omega (arith, few (omega arith), length-append (bodies_below th a q) (body_entries th a (th.body q) (th.heads q)))
 
   -- ---- nodes
 
   module _ (n : ℕ) (l : n < th.nodes) (k : ℕ) (e : th.kind n ≡ kind_of k) where
-    degree-inputs : length (preds th everyone (th.atoms + n)) ≡ length (inputs th (kind_of k) n)
-    degree-inputs = ap length (preds-node th everyone n l refl) ∙ ap (λ (z : Kind). length (inputs th z n)) e
+    degree_inputs : length (preds th everyone (th.atoms + n)) ≡ length (inputs th (kind_of k) n)
+    degree_inputs = ap length (preds_node th everyone n l refl) ∙ ap (λ (z : Kind). length (inputs th z n)) e
 
-    pub degree-operand : k ≡ 1 → length (preds th everyone (th.atoms + n)) ≡ 1
+    pub degree_operand : k ≡ 1 → length (preds th everyone (th.atoms + n)) ≡ 1
     unfolding inputs kind_of
-    degree-operand q = degree-inputs ∙ ap (λ (z : ℕ). length (inputs th (kind_of z) n)) q
+    degree_operand q = degree_inputs ∙ ap (λ (z : ℕ). length (inputs th (kind_of z) n)) q
 
-    pub degree-leaves : k ≢ 1 → (joins (th.kind n) ≡ false → th.leaves n ≡ []) → length (preds th everyone (th.atoms + n)) ≡ length (th.leaves n)
+    pub degree_leaves : k ≢ 1 → (joins (th.kind n) ≡ false → th.leaves n ≡ []) → length (preds th everyone (th.atoms + n)) ≡ length (th.leaves n)
     unfolding inputs joins kind_of
-    degree-leaves q none = degree-inputs ∙ go k q (λ f. none (ap joins e ∙ f))
+    degree_leaves q none = degree_inputs ∙ go k q (λ f. none (ap joins e ∙ f))
       where
         go : (k : ℕ) → k ≢ 1 → (joins (kind_of k) ≡ false → th.leaves n ≡ []) → length (inputs th (kind_of k) n) ≡ length (th.leaves n)
         go zero q none = omega (arith, ap length (none refl))
@@ -77,22 +77,22 @@ module _ (th : Theory) where
 
   -- ---- a vertex
 
-  pub degree-atom : (p v : ℕ) → v < th.atoms → degreeBy th p v ≡ length (bodiesBelow th v p)
-  degree-atom p v l = ap (λ (b : Bool). cond b (length (bodiesBelow th v p)) (length (preds th everyone v))) (lt-ltb v th.atoms l)
+  pub degree_atom : (p v : ℕ) → v < th.atoms → degree_by th p v ≡ length (bodies_below th v p)
+  degree_atom p v l = ap (λ (b : Bool). cond b (length (bodies_below th v p)) (length (preds th everyone v))) (lt-ltb v th.atoms l)
 
-  pub degree-node : (p v : ℕ) → th.atoms ≤ v → degreeBy th p v ≡ length (preds th everyone v)
-  degree-node p v l = ap (λ (b : Bool). cond b (length (bodiesBelow th v p)) (length (preds th everyone v))) (le-ltb v th.atoms l)
+  pub degree_node : (p v : ℕ) → th.atoms ≤ v → degree_by th p v ≡ length (preds th everyone v)
+  degree_node p v l = ap (λ (b : Bool). cond b (length (bodies_below th v p)) (length (preds th everyone v))) (le-ltb v th.atoms l)
 
-  pub degree-all : (v : ℕ) → degreeBy th th.producers v ≡ length (preds th everyone v)
-  degree-all v = go (dec_lt v th.atoms)
+  pub degree_all : (v : ℕ) → degree_by th th.producers v ≡ length (preds th everyone v)
+  degree_all v = go (dec_lt v th.atoms)
     where
-      go : Dec (v < th.atoms) → degreeBy th th.producers v ≡ length (preds th everyone v)
-      go (yes l) = omega (arith, degree-atom th.producers v l, ap length (preds-atom th everyone v l))
-      go (no l) = degree-node th.producers v (omega arith)
+      go : Dec (v < th.atoms) → degree_by th th.producers v ≡ length (preds th everyone v)
+      go (yes l) = omega (arith, degree_atom th.producers v l, ap length (preds_atom th everyone v l))
+      go (no l) = degree_node th.producers v (omega arith)
 
-  pub degree-few : (p v : ℕ) → p ≤ th.producers → degreeBy th p v ≤ length (preds th everyone v)
-  degree-few p v h = go (dec_lt v th.atoms)
+  pub degree_few : (p v : ℕ) → p ≤ th.producers → degree_by th p v ≤ length (preds th everyone v)
+  degree_few p v h = go (dec_lt v th.atoms)
     where
-      go : Dec (v < th.atoms) → degreeBy th p v ≤ length (preds th everyone v)
-      go (yes l) = omega (arith, degree-atom p v l, ap length (preds-atom th everyone v l), below-few v p th.producers h)
-      go (no l) = omega (arith, degree-node p v (omega arith))
+      go : Dec (v < th.atoms) → degree_by th p v ≤ length (preds th everyone v)
+      go (yes l) = omega (arith, degree_atom p v l, ap length (preds_atom th everyone v l), below_few v p th.producers h)
+      go (no l) = omega (arith, degree_node p v (omega arith))

@@ -3,10 +3,10 @@ use Rattle.std.specs.Prelude.{◌≡◌, ◌↔◌, cond, List, ℕ, ◌+◌, �
 use Rattle.theory.specs.Sets.{Mem, everyone}
 use Rattle.theory.specs.Counts.{occ, Distinct}
 use Rattle.theory.specs.Theory.{Theory, WellFormed}
-use Rattle.theory.specs.Edges.{bodiesBelow, preds}
+use Rattle.theory.specs.Edges.{bodies_below, preds}
 use Rattle.area.specs.declared.Bases.{Bases}
 use Rattle.area.specs.Layout.{Laid}
-use Rattle.area.specs.Views.{countAt, queued}
+use Rattle.area.specs.Views.{count_at, queued}
 use Rattle.events.specs.Held.{Tables}
 
 -- what does not change: the counts, the regions, the tables
@@ -23,23 +23,23 @@ pub record Shape (lim : ℕ) (th : Theory) (b : Bases) (w : List ℕ) : Type 0 w
 -- no edge to an atom is counted yet, and every edge to the first n nodes is
 pub record Started (lim : ℕ) (th : Theory) (b : Bases) (w : List ℕ) (n : ℕ) : Type 0 where
   pub shape : Shape lim th b w
-  pub atoms : (a : ℕ) → a < b.atoms → countAt b w a ≡ 0
-  pub nodes : (m : ℕ) → m < n → countAt b w (b.atoms + m) ≡ length (preds th everyone (b.atoms + m))
+  pub atoms : (a : ℕ) → a < b.atoms → count_at b w a ≡ 0
+  pub nodes : (m : ℕ) → m < n → count_at b w (b.atoms + m) ≡ length (preds th everyone (b.atoms + m))
 
 -- how many edges lead to v: to a node all of them, and to an atom those of the first p producers
-abbrev pub degreeBy : Theory → ℕ → ℕ → ℕ
-degreeBy th p v = cond (ltb v th.atoms) (length (bodiesBelow th v p)) (length (preds th everyone v))
+abbrev pub degree_by : Theory → ℕ → ℕ → ℕ
+degree_by th p v = cond (ltb v th.atoms) (length (bodies_below th v p)) (length (preds th everyone v))
 
 -- those are counted, but for todo
 pub record Counting (lim : ℕ) (th : Theory) (b : Bases) (w : List ℕ) (p : ℕ) (todo : List ℕ) : Type 0 where
   pub shape : Shape lim th b w
   pub low : (v : ℕ) → Mem v todo → v < b.atoms + b.nodes
   pub begun : p ≤ th.producers
-  pub tally : (v : ℕ) → v < b.atoms + b.nodes → countAt b w v + occ v todo ≡ degreeBy th p v
+  pub tally : (v : ℕ) → v < b.atoms + b.nodes → count_at b w v + occ v todo ≡ degree_by th p v
 
 -- those of the vertices below k that wait for nothing are on the queue, tail of them; what stands before the queue stays
 pub record Looked (b : Bases) (w₀ w : List ℕ) (k tail : ℕ) : Type 0 where
   pub size : length w ≡ length w₀
   pub before : take b.queue w ≡ take b.queue w₀
   pub distinct : Distinct (queued b w tail)
-  pub first : (v : ℕ) → Mem v (queued b w tail) ↔ ((v < k) × (countAt b w₀ v ≡ 0))
+  pub first : (v : ℕ) → Mem v (queued b w tail) ↔ ((v < k) × (count_at b w₀ v ≡ 0))

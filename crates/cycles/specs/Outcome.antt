@@ -4,11 +4,11 @@ use Rattle.theory.specs.Sets.{everyone}
 use Rattle.theory.specs.Walks.{Walk}
 use Rattle.theory.specs.Theory.{Theory}
 use Rattle.theory.specs.Edges.{vertices, preds}
-use Rattle.theory.specs.Founded.{hasCycle}
-use Rattle.theory.specs.Words.{theoryOf}
-use Rattle.theory.specs.Accepted.{Edition, areaOf}
-use Rattle.refusals.specs.Answer.{Answer, refuse, refuseIf, orNext}
-use Rattle.refusals.specs.Refusals.{graphAnswer, answer_of}
+use Rattle.theory.specs.Founded.{has_cycle}
+use Rattle.theory.specs.Words.{theory_of}
+use Rattle.theory.specs.Accepted.{Edition, area_of}
+use Rattle.refusals.specs.Answer.{Answer, refuse, refuse_if, or_next}
+use Rattle.refusals.specs.Refusals.{graph_answer, answer_of}
 use Rattle.cycles.specs.declared.Need.{Need}
 use Rattle.cycles.specs.declared.Need.TheVariants.{No, Yes, Refused, Work}
 
@@ -16,21 +16,21 @@ pub data Outcome : Type 0 where
   refused : Answer → Outcome
   loops : Bool → Outcome
 
-abbrev pub outcomeOf : Need → Outcome
-outcomeOf No = loops false
-outcomeOf Yes = loops true
-outcomeOf (Refused c) = refused (answer_of c)
-outcomeOf Work = refused (refuse 11 0)
+abbrev pub outcome_of : Need → Outcome
+outcome_of No = loops false
+outcome_of Yes = loops true
+outcome_of (Refused c) = refused (answer_of c)
+outcome_of Work = refused (refuse 11 0)
 
 -- rows 1 to 9, then 11
 abbrev pub refusal : Edition → (graph work : List ℕ) → Answer
-refusal ed graph work = orNext (graphAnswer ed graph) (refuseIf 11 (not (eqb (length work) (areaOf ed (theoryOf graph)))))
+refusal ed graph work = or_next (graph_answer ed graph) (refuse_if 11 (not (eqb (length work) (area_of ed (theory_of graph)))))
 
 abbrev pub outcome : Edition → (graph work : List ℕ) → Outcome
-outcome ed graph work = cond (eqb (refusal ed graph work).number 0) (loops (hasCycle (theoryOf graph))) (refused (refusal ed graph work))
+outcome ed graph work = cond (eqb (refusal ed graph work).number 0) (loops (has_cycle (theory_of graph))) (refused (refusal ed graph work))
 
-abbrev pub workAfter : Edition → (graph work : List ℕ) → List ℕ
-workAfter ed graph work = cond (eqb (refusal ed graph work).number 0) (replicate (areaOf ed (theoryOf graph)) 0) work
+abbrev pub work_after : Edition → (graph work : List ℕ) → List ℕ
+work_after ed graph work = cond (eqb (refusal ed graph work).number 0) (replicate (area_of ed (theory_of graph)) 0) work
 
 -- a closed walk over all atoms and all nodes
 abbrev pub ClosedWalk : Theory → Type 0

@@ -3,13 +3,13 @@
 // (Kahn 1962). Atom a is vertex a, and node n is vertex atoms + n.
 ghost use Rattle.std.specs.Prelude.{◌≡◌, true, ◌↔◌, [], ◌+◌, ◌<◌, ◌≤◌, length};
 ghost use Rattle.theory.specs.Sets.{everyone};
-ghost use Rattle.theory.specs.Words.{theoryOf};
+ghost use Rattle.theory.specs.Words.{theory_of};
 ghost use Rattle.theory.specs.Edges.{preds};
 ghost use Rattle.theory.specs.Accepted.{Accepted, edition2};
-ghost use Rattle.theory.specs.Founded.{hasCycle};
+ghost use Rattle.theory.specs.Founded.{has_cycle};
 ghost use Rattle.area.specs.Layout.{Laid, Roomy, Based};
 ghost use Rattle.cycles.specs.Held.{Started, Counting, Looked};
-ghost use Rattle.cycles.specs.Outcome.{loops, outcomeOf, outcome, workAfter, ClosedWalk};
+ghost use Rattle.cycles.specs.Outcome.{loops, outcome_of, outcome, work_after, ClosedWalk};
 
 use adjacency::Table;
 use area::Bases;
@@ -18,8 +18,8 @@ use refusals::Checked;
 
 // How many edges lead to node n: one from its operand, or one from each leaf.
 fn degree(graph: &[u32], n: usize) -> usize
-    requires { Accepted edition2 graph.now × (n < (theoryOf graph.now).nodes) }
-    ensures { result ≡ length (preds (theoryOf graph.now) everyone ((theoryOf graph.now).atoms + n)) }
+    requires { Accepted edition2 graph.now × (n < (theory_of graph.now).nodes) }
+    ensures { result ≡ length (preds (theory_of graph.now) everyone ((theory_of graph.now).atoms + n)) }
 {
     if graph32::kind(graph, n) == 1 {
         return 1;
@@ -29,8 +29,8 @@ fn degree(graph: &[u32], n: usize) -> usize
 
 // How many entries each node waits for.
 fn count_nodes(graph: &[u32], work: &mut [u32], b: Bases)
-    requires { Accepted edition2 graph.now × Started 4294967296 (theoryOf graph.now) b work.old 0 }
-    ensures { Started 4294967296 (theoryOf graph.now) b work.new b.nodes }
+    requires { Accepted edition2 graph.now × Started 4294967296 (theory_of graph.now) b work.old 0 }
+    ensures { Started 4294967296 (theory_of graph.now) b work.new b.nodes }
 {
     let mut n: usize = 0;
     while n < b.nodes {
@@ -41,8 +41,8 @@ fn count_nodes(graph: &[u32], work: &mut [u32], b: Bases)
 
 // The heads of producer p, one more for each; a fact has no edge to them.
 fn count_heads(graph: &[u32], work: &mut [u32], b: Bases, p: usize)
-    requires { Accepted edition2 graph.now × (p < (theoryOf graph.now).producers) × Counting 4294967296 (theoryOf graph.now) b work.old p [] }
-    ensures { Counting 4294967296 (theoryOf graph.now) b work.new (p + 1) [] }
+    requires { Accepted edition2 graph.now × (p < (theory_of graph.now).producers) × Counting 4294967296 (theory_of graph.now) b work.old p [] }
+    ensures { Counting 4294967296 (theory_of graph.now) b work.new (p + 1) [] }
 {
     if graph32::body(graph, p) == 0 {
         return;
@@ -58,8 +58,8 @@ fn count_heads(graph: &[u32], work: &mut [u32], b: Bases, p: usize)
 
 // How many entries each vertex waits for.
 fn count_all(graph: &[u32], work: &mut [u32], b: Bases)
-    requires { Accepted edition2 graph.now × Started 4294967296 (theoryOf graph.now) b work.old 0 }
-    ensures { Counting 4294967296 (theoryOf graph.now) b work.new (theoryOf graph.now).producers [] }
+    requires { Accepted edition2 graph.now × Started 4294967296 (theory_of graph.now) b work.old 0 }
+    ensures { Counting 4294967296 (theory_of graph.now) b work.new (theory_of graph.now).producers [] }
 {
     count_nodes(graph, work, b);
     let end = graph32::producers(graph);
@@ -90,7 +90,7 @@ fn look_all(work: &mut [u32], b: Bases) -> usize
 // The tables that are read, and a count of zero for each atom.
 fn set_up(graph: &[u32], work: &mut [u32], b: Bases)
     requires { Accepted edition2 graph.now × Based graph.now (length work.old) b }
-    ensures { Started 4294967296 (theoryOf graph.now) b work.new 0 }
+    ensures { Started 4294967296 (theory_of graph.now) b work.new 0 }
 {
     adjacency32::build_in(graph, work, b, Table::AtomNodes);
     adjacency32::build_in(graph, work, b, Table::Parents);
@@ -103,7 +103,7 @@ fn set_up(graph: &[u32], work: &mut [u32], b: Bases)
 // Whether a closed walk keeps some vertex from being released.
 fn cyclic(graph: &[u32], work: &mut [u32]) -> bool
     requires { Accepted edition2 graph.now × Roomy graph.now (length work.old) }
-    ensures { result ≡ hasCycle (theoryOf graph.now) }
+    ensures { result ≡ has_cycle (theory_of graph.now) }
 {
     let words = work.len();
     let b = area32::bases_of(graph, words);
@@ -115,7 +115,7 @@ fn cyclic(graph: &[u32], work: &mut [u32]) -> bool
 }
 
 fn reply(yes: bool) -> Need
-    ensures { outcomeOf result ≡ loops yes }
+    ensures { outcome_of result ≡ loops yes }
 {
     if yes {
         return Need::Yes;
@@ -125,9 +125,9 @@ fn reply(yes: bool) -> Need
 
 // Refusals 1 to 9, then 11, then whether there is a closed walk.
 pub fn needed(graph: &[u32], work: &mut [u32]) -> Need
-    ensures result_value { outcomeOf result ≡ outcome edition2 graph.now work.old }
-    ensures work_after { work.new ≡ workAfter edition2 graph.now work.old }
-    ensures variant { (yes : _) → outcomeOf result ≡ loops yes → (yes ≡ true) ↔ ClosedWalk (theoryOf graph.now) }
+    ensures result_value { outcome_of result ≡ outcome edition2 graph.now work.old }
+    ensures work_after { work.new ≡ work_after edition2 graph.now work.old }
+    ensures variant { (yes : _) → outcome_of result ≡ loops yes → (yes ≡ true) ↔ ClosedWalk (theory_of graph.now) }
 {
     let checked = checking32::check(graph);
     let Checked::Accepted = checked else {

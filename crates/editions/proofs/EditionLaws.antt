@@ -9,18 +9,18 @@ use lib.Dec.{eqb}
 use lib.ListN.{length, get_or}
 use Rattle.theory.specs.Sets.{Set, filled}
 use Rattle.theory.specs.Theory.{WellFormed}
-use Rattle.theory.specs.Words.{theoryOf, bit_at}
+use Rattle.theory.specs.Words.{theory_of, bit_at}
 use Rattle.theory.specs.Accepted.{Edition}
-use Rattle.theory.specs.Cases.{absorbedIn, outcome as rulesGive}
+use Rattle.theory.specs.Cases.{absorbed_in, outcome as rules_give}
 use Rattle.theory.specs.Alike.{Alike}
 use Rattle.theory.specs.Content.{SameContent}
-use Rattle.theory.proofs.ContentLaws.{content-alike, cyclic-alike, hasCycle-alike, missing-alike, absorbed-alike, outcome-alike}
-use Rattle.refusals.specs.Answer.{Answer, accept, refuse, refuseIf, orNext, firstRefusal}
-use Rattle.refusals.specs.Refusals.{graphRows, graphAnswer}
+use Rattle.theory.proofs.ContentLaws.{content_alike, cyclic_alike, has_cycle_alike, missing_alike, absorbed_alike, outcome_alike}
+use Rattle.refusals.specs.Answer.{Answer, accept, refuse, refuse_if, or_next, first_refusal}
+use Rattle.refusals.specs.Refusals.{graph_rows, graph_answer}
 use Rattle.refusals.proofs.RowLaws.{rows_append}
 use Rattle.refusals.proofs.AcceptedLaws.{accepted}
 use Rattle.cycles.specs.Outcome.{Outcome, loops, refused, outcome}
-use Rattle.founded.specs.Answers.{preparedOf, completedOf, badMask, badLengths, badWork, absorbedRow, callAnswer, prepareAnswer, completeAnswer, outputLeft, Prepares, Completes}
+use Rattle.founded.specs.Answers.{prepared_of, completed_of, bad_mask, bad_lengths, bad_work, absorbed_row, call_answer, prepare_answer, complete_answer, output_left, Prepares, Completes}
 use Rattle.founded.specs.declared.Prepared.{Prepared}
 use Rattle.founded.specs.declared.Completed.{Completed}
 
@@ -30,71 +30,71 @@ said a b = cond (eqb a.number 0) (loops b) (refused a)
 
 -- the rows after the graph's; f: the body cone holds an absorbed node
 late : (lengths area f : Bool) (p : ℕ) → Answer
-late lengths area f p = orNext (refuseIf 10 lengths) (orNext (refuseIf 11 area) (orNext (cond f (refuse 12 p) accept) accept))
+late lengths area f p = or_next (refuse_if 10 lengths) (or_next (refuse_if 11 area) (or_next (cond f (refuse 12 p) accept) accept))
 
-late-number : (lengths area f : Bool) (p q : ℕ) → (late lengths area f p).number ≡ (late lengths area f q).number
+late_number : (lengths area f : Bool) (p q : ℕ) → (late lengths area f p).number ≡ (late lengths area f q).number
 unfolding late
-late-number true area f p q = refl
-late-number false true f p q = refl
-late-number false false true p q = refl
-late-number false false false p q = refl
+late_number true area f p q = refl
+late_number false true f p q = refl
+late_number false false true p q = refl
+late_number false false false p q = refl
 
-after-graph : (ed : Edition) (ws : List ℕ) → graphAnswer ed ws ≡ accept → (l a : Bool) (p : ℕ) → callAnswer ed ws l a p ≡ late l a (filled (absorbedIn (theoryOf ws))) p
-unfolding graphAnswer firstRefusal absorbedRow late
-after-graph ed ws ok l a p = rows_append (graphRows ed ws) (refuseIf 10 l ∷ refuseIf 11 a ∷ absorbedRow (theoryOf ws) p ∷ []) ∙ rw ok
+after_graph : (ed : Edition) (ws : List ℕ) → graph_answer ed ws ≡ accept → (l a : Bool) (p : ℕ) → call_answer ed ws l a p ≡ late l a (filled (absorbed_in (theory_of ws))) p
+unfolding graph_answer first_refusal absorbed_row late
+after_graph ed ws ok l a p = rows_append (graph_rows ed ws) (refuse_if 10 l ∷ refuse_if 11 a ∷ absorbed_row (theory_of ws) p ∷ []) ∙ rw ok
 
-module _ (ed fd : Edition) (x y : List ℕ) (first : graphAnswer ed x ≡ accept) (second : graphAnswer fd y ≡ accept) (same : SameContent x y) where
-  one : Alike (theoryOf x) (theoryOf y)
-  one = content-alike x y same
+module _ (ed fd : Edition) (x y : List ℕ) (first : graph_answer ed x ≡ accept) (second : graph_answer fd y ≡ accept) (same : SameContent x y) where
+  one : Alike (theory_of x) (theory_of y)
+  one = content_alike x y same
 
-  ok : WellFormed (theoryOf x)
-  ok = (accepted ed x first).well-formed
+  ok : WellFormed (theory_of x)
+  ok = (accepted ed x first).well_formed
 
-  fine : WellFormed (theoryOf y)
-  fine = (accepted fd y second).well-formed
+  fine : WellFormed (theory_of y)
+  fine = (accepted fd y second).well_formed
 
   atoms : get_or x 1 0 ≡ get_or y 1 0
-  unfolding theoryOf
+  unfolding theory_of
   atoms = same.atoms
 
   nodes : get_or x 2 0 ≡ get_or y 2 0
-  unfolding theoryOf
+  unfolding theory_of
   nodes = same.nodes
 
-  pub outcome-equal : (never atomNever : Set) → rulesGive (theoryOf x) never atomNever ≡ rulesGive (theoryOf y) never atomNever
-  outcome-equal = outcome-alike (theoryOf x) (theoryOf y) one ok fine
+  pub outcome_equal : (never atom_never : Set) → rules_give (theory_of x) never atom_never ≡ rules_give (theory_of y) never atom_never
+  outcome_equal = outcome_alike (theory_of x) (theory_of y) one ok fine
 
   -- v, w: the two work areas
-  module _ (v w : List ℕ) (area : badWork ed x (length v) ≡ badWork fd y (length w)) where
-    pub needed-equal : outcome ed x v ≡ outcome fd y w
+  module _ (v w : List ℕ) (area : bad_work ed x (length v) ≡ bad_work fd y (length w)) where
+    pub needed_equal : outcome ed x v ≡ outcome fd y w
     unfolding said
-    needed-equal = ap₂ said (ap₂ orNext (first ∙ sym second) (ap (refuseIf 11) area)) (hasCycle-alike (theoryOf x) (theoryOf y) one ok fine)
+    needed_equal = ap₂ said (ap₂ or_next (first ∙ sym second) (ap (refuse_if 11) area)) (has_cycle_alike (theory_of x) (theory_of y) one ok fine)
 
-    numbers : {l m : Bool} → l ≡ m → (p q : ℕ) → (callAnswer ed x l (badWork ed x (length v)) p).number ≡ (callAnswer fd y m (badWork fd y (length w)) q).number
+    numbers : {l m : Bool} → l ≡ m → (p q : ℕ) → (call_answer ed x l (bad_work ed x (length v)) p).number ≡ (call_answer fd y m (bad_work fd y (length w)) q).number
     numbers {l} {m} e p q =
-        ap (λ (a : Answer). a.number) (after-graph ed x first l (badWork ed x (length v)) p)
-        ∙ rw (e, area, absorbed-alike (theoryOf x) (theoryOf y) one ok fine) (late-number m (badWork fd y (length w)) (filled (absorbedIn (theoryOf y))) p q)
-        ∙ sym (ap (λ (a : Answer). a.number) (after-graph fd y second m (badWork fd y (length w)) q))
+        ap (λ (a : Answer). a.number) (after_graph ed x first l (bad_work ed x (length v)) p)
+        ∙ rw (e, area, absorbed_alike (theory_of x) (theory_of y) one ok fine) (late_number m (bad_work fd y (length w)) (filled (absorbed_in (theory_of y))) p q)
+        ∙ sym (ap (λ (a : Answer). a.number) (after_graph fd y second m (bad_work fd y (length w)) q))
 
-    written : {n m : ℕ} → n ≡ m → {c d : Set} → c ≡ d → (output : List ℕ) → outputLeft n (get_or x 1 0) c output ≡ outputLeft m (get_or y 1 0) d output
+    written : {n m : ℕ} → n ≡ m → {c d : Set} → c ≡ d → (output : List ℕ) → output_left n (get_or x 1 0) c output ≡ output_left m (get_or y 1 0) d output
     written {n} {m} e {c} {d} f output =
-        ap (λ (k : ℕ). outputLeft k (get_or x 1 0) c output) e ∙ ap (λ (k : ℕ). outputLeft m k c output) atoms ∙ ap (λ (k : Set). outputLeft m (get_or y 1 0) k output) f
+        ap (λ (k : ℕ). output_left k (get_or x 1 0) c output) e ∙ ap (λ (k : ℕ). output_left m k c output) atoms ∙ ap (λ (k : Set). output_left m (get_or y 1 0) k output) f
 
-    pub prepared-equal : (output o₁ v₁ o₂ w₂ : List ℕ) (r s : Prepared) → Prepares ed x output v o₁ v₁ r → Prepares fd y output w o₂ w₂ s → ((preparedOf r).number ≡ (preparedOf s).number) × (o₁ ≡ o₂)
-    unfolding prepareAnswer
-    prepared-equal output o₁ v₁ o₂ w₂ r s p q =
-        let n : (preparedOf r).number ≡ (preparedOf s).number =
-        ap (λ (a : Answer). a.number) p.answer ∙ numbers (ap (λ (k : ℕ). badMask k (length output)) atoms) (preparedOf r).place (preparedOf s).place ∙ sym (ap (λ (a : Answer). a.number) q.answer) in
-        (n, p.output-after ∙ written n (fun_ext (cyclic-alike (theoryOf x) (theoryOf y) one ok fine)) output ∙ sym q.output-after)
+    pub prepared_equal : (output o₁ v₁ o₂ w₂ : List ℕ) (r s : Prepared) → Prepares ed x output v o₁ v₁ r → Prepares fd y output w o₂ w₂ s → ((prepared_of r).number ≡ (prepared_of s).number) × (o₁ ≡ o₂)
+    unfolding prepare_answer
+    prepared_equal output o₁ v₁ o₂ w₂ r s p q =
+        let n : (prepared_of r).number ≡ (prepared_of s).number =
+        ap (λ (a : Answer). a.number) p.answer ∙ numbers (ap (λ (k : ℕ). bad_mask k (length output)) atoms) (prepared_of r).place (prepared_of s).place ∙ sym (ap (λ (a : Answer). a.number) q.answer) in
+        (n, p.output_after ∙ written n (fun_ext (cyclic_alike (theory_of x) (theory_of y) one ok fine)) output ∙ sym q.output_after)
 
-    lengths-equal : (n a o : ℕ) → badLengths x n a o ≡ badLengths y n a o
-    unfolding badLengths
-    lengths-equal n a o = ap₂ (λ (k j : ℕ). badMask k n || (badMask j a || badMask j o)) nodes atoms
+    lengths_equal : (n a o : ℕ) → bad_lengths x n a o ≡ bad_lengths y n a o
+    unfolding bad_lengths
+    lengths_equal n a o = ap₂ (λ (k j : ℕ). bad_mask k n || (bad_mask j a || bad_mask j o)) nodes atoms
 
-    pub completed-equal : (never atomNever output o₁ v₁ o₂ w₂ : List ℕ) (r s : Completed) → Completes ed x never atomNever output v o₁ v₁ r → Completes fd y never atomNever output w o₂ w₂ s
-        → ((completedOf r).number ≡ (completedOf s).number) × (o₁ ≡ o₂)
-    unfolding completeAnswer
-    completed-equal never atomNever output o₁ v₁ o₂ w₂ r s p q =
-        let n : (completedOf r).number ≡ (completedOf s).number =
-        ap (λ (a : Answer). a.number) p.answer ∙ numbers (lengths-equal (length never) (length atomNever) (length output)) (completedOf r).place (completedOf s).place ∙ sym (ap (λ (a : Answer). a.number) q.answer) in
-        (n, p.output-after ∙ written n (fun_ext (missing-alike (theoryOf x) (theoryOf y) one ok fine (bit_at never) (bit_at atomNever))) output ∙ sym q.output-after)
+    pub completed_equal : (never atom_never output o₁ v₁ o₂ w₂ : List ℕ) (r s : Completed) → Completes ed x never atom_never output v o₁ v₁ r → Completes fd y never atom_never output w o₂ w₂ s
+        → ((completed_of r).number ≡ (completed_of s).number) × (o₁ ≡ o₂)
+    unfolding complete_answer
+    completed_equal never atom_never output o₁ v₁ o₂ w₂ r s p q =
+        let n : (completed_of r).number ≡ (completed_of s).number =
+        ap (λ (a : Answer). a.number) p.answer ∙ numbers (lengths_equal (length never) (length atom_never) (length output)) (completed_of r).place (completed_of s).place ∙ sym (ap (λ (a : Answer). a.number) q.answer) in
+        (n, p.output_after ∙ written n (fun_ext (missing_alike (theory_of x) (theory_of y) one ok fine (bit_at never) (bit_at atom_never))) output ∙ sym q.output_after)

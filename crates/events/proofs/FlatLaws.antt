@@ -4,10 +4,10 @@ use mathlib.Core.List.{List, [], ◌∷◌, ◌++◌}
 use Prim.Native.Nat.{ℕ}
 use Rattle.theory.specs.Rows.{flat_map}
 
-pub flat-cons : (f : ℕ → List ℕ) (x : ℕ) (l : List ℕ) → flat_map f (x ∷ l) ≡ f x ++ flat_map f l
+pub flat_cons : (f : ℕ → List ℕ) (x : ℕ) (l : List ℕ) → flat_map f (x ∷ l) ≡ f x ++ flat_map f l
 unfolding flat_map
-flat-cons f x l = refl
+flat_cons f x l = refl
 
-pub flat-none : (f : ℕ → List ℕ) → flat_map f [] ≡ []
+pub flat_none : (f : ℕ → List ℕ) → flat_map f [] ≡ []
 unfolding flat_map
-flat-none f = refl
+flat_none f = refl

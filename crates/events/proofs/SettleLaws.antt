@@ -9,13 +9,13 @@ use borrow.Author.Tests.{lt-ltb}
 use lib.Dec.{ltb}
 use lib.ListN.{length, get_or, set, drop, length-set}
 use lib.Seq.{set-get_or, get_or-set_other, take-set-le}
-use Rattle.theory.proofs.PrefixLaws.{upto-length}
+use Rattle.theory.proofs.PrefixLaws.{upto_length}
 use Rattle.theory.specs.Worklist.{Worklist}
-use Rattle.theory.proofs.WorklistLaws.{entry-low, entry-idle, entry-count, entry_found, entry-room}
+use Rattle.theory.proofs.WorklistLaws.{entry_low, entry_idle, entry_count, entry_found, entry_room}
 use Rattle.theory.specs.Drive.{Follows, Drives}
 use Rattle.area.specs.declared.Bases.{Bases}
-use Rattle.area.specs.Views.{countAt, queued}
-use Rattle.area.proofs.ViewLaws.{count_same, count-other, count-queue, push-count, push-queue}
+use Rattle.area.specs.Views.{count_at, queued}
+use Rattle.area.proofs.ViewLaws.{count_same, count_other, count_queue, push_count, push_queue}
 use Rattle.events.specs.Held.{Ctx, Held}
 use Rattle.events.proofs.TurnLaws.{Ready}
 
@@ -26,50 +26,50 @@ one_of (suc n) = rw (lt-ltb 0 (suc n) (omega arith)) (omega arith)
 
 module _ {lim : ℕ} {b : Bases} {w : List ℕ} {t v : ℕ} where
   module _ {c : Ctx} {todo : List ℕ} (h : Held lim b c w t (v ∷ todo)) where
-    list : Worklist (b.atoms + b.nodes) c.mode c.pred (queued b w t) c.done (v ∷ todo) (countAt b w)
+    list : Worklist (b.atoms + b.nodes) c.mode c.pred (queued b w t) c.done (v ∷ todo) (count_at b w)
     list = h.settling
 
     low : v < b.atoms + b.nodes
-    low = entry-low (b.atoms + b.nodes) c.mode c.pred list
+    low = entry_low (b.atoms + b.nodes) c.mode c.pred list
 
-    held-idle : get_or w (b.dependencies + v) 0 ≡ 0 → Held lim b c w t todo
-    held-idle z = record {
+    held_idle : get_or w (b.dependencies + v) 0 ≡ 0 → Held lim b c w t todo
+    held_idle z = record {
       laid = h.laid;
       long = h.long;
       small = h.small;
       fore = h.fore;
       front = h.front;
-      settling = entry-idle (b.atoms + b.nodes) c.mode c.pred list z;
+      settling = entry_idle (b.atoms + b.nodes) c.mode c.pred list z;
     }
 
     module _ (n : ℕ) (en : n + 1 ≡ get_or w (b.dependencies + v) 0) where
-      here : countAt b (set w (b.dependencies + v) n) v ≡ n
+      here : count_at b (set w (b.dependencies + v) n) v ≡ n
       here = count_same h.laid w h.long v n low
 
-      fewer : countAt b w v ≡ suc (countAt b (set w (b.dependencies + v) n) v)
+      fewer : count_at b w v ≡ suc (count_at b (set w (b.dependencies + v) n) v)
       fewer = rw here (omega arith)
 
-      others : (x : ℕ) → x < b.atoms + b.nodes → x ≢ v → countAt b (set w (b.dependencies + v) n) x ≡ countAt b w x
-      others x l k = count-other h.laid w h.long v n low x k
+      others : (x : ℕ) → x < b.atoms + b.nodes → x ≢ v → count_at b (set w (b.dependencies + v) n) x ≡ count_at b w x
+      others x l k = count_other h.laid w h.long v n low x k
 
-      held-count : 0 < n → Held lim b c (set w (b.dependencies + v) n) t todo
-      held-count p = record {
+      held_count : 0 < n → Held lim b c (set w (b.dependencies + v) n) t todo
+      held_count p = record {
         laid = h.laid;
         long = rw length-set h.long;
         small = h.small;
         fore = h.fore;
         front = λ i l. let q = h.laid in let x = low in get_or-set_other w (b.dependencies + v) (b.queue + i) n 0 (λ e. omega arith) ∙ h.front i l;
-        settling = rw (count-queue h.laid w h.long v n low t) (entry-count (b.atoms + b.nodes) c.mode c.pred list (countAt b (set w (b.dependencies + v) n)) fewer others (rw here p));
+        settling = rw (count_queue h.laid w h.long v n low t) (entry_count (b.atoms + b.nodes) c.mode c.pred list (count_at b (set w (b.dependencies + v) n)) fewer others (rw here p));
       }
 
       room : t < b.atoms + b.nodes
       room =
-          let k = entry-room (b.atoms + b.nodes) c.mode c.pred list (countAt b (set w (b.dependencies + v) n)) fewer others in
-          omega (arith, upto-length t (drop b.queue w))
+          let k = entry_room (b.atoms + b.nodes) c.mode c.pred list (count_at b (set w (b.dependencies + v) n)) fewer others in
+          omega (arith, upto_length t (drop b.queue w))
 
       -- the counts after the vertex is on the queue
-      beyond : (x : ℕ) → x < b.atoms + b.nodes → countAt b (set (set w (b.dependencies + v) n) (b.queue + t) v) x ≡ countAt b (set w (b.dependencies + v) n) x
-      beyond x l = push-count h.laid (set w (b.dependencies + v) n) (rw length-set h.long) t v room x l
+      beyond : (x : ℕ) → x < b.atoms + b.nodes → count_at b (set (set w (b.dependencies + v) n) (b.queue + t) v) x ≡ count_at b (set w (b.dependencies + v) n) x
+      beyond x l = push_count h.laid (set w (b.dependencies + v) n) (rw length-set h.long) t v room x l
 
       held_found : n ≡ 0 → Held lim b c (set (set w (b.dependencies + v) n) (b.queue + t) v) (t + 1) todo
       held_found z = record {
@@ -81,8 +81,8 @@ module _ {lim : ℕ} {b : Bases} {w : List ℕ} {t v : ℕ} where
             let q = h.laid in let x = low in let a = h.fore in
             get_or-set_other (set w (b.dependencies + v) n) (b.queue + t) (b.queue + i) v 0 (λ e. omega arith) ∙ get_or-set_other w (b.dependencies + v) (b.queue + i) n 0 (λ e. omega arith) ∙ h.front i l;
         settling =
-            rw (push-queue h.laid (set w (b.dependencies + v) n) (rw length-set h.long) t v room, count-queue h.laid w h.long v n low t)
-            (entry_found (b.atoms + b.nodes) c.mode c.pred list (countAt b (set (set w (b.dependencies + v) n) (b.queue + t) v))
+            rw (push_queue h.laid (set w (b.dependencies + v) n) (rw length-set h.long) t v room, count_queue h.laid w h.long v n low t)
+            (entry_found (b.atoms + b.nodes) c.mode c.pred list (count_at b (set (set w (b.dependencies + v) n) (b.queue + t) v))
             (rw (beyond v low) fewer) (λ x l k. beyond x l ∙ others x l k) (beyond v low ∙ here ∙ z));
       }
 
@@ -92,28 +92,28 @@ module _ {lim : ℕ} {b : Bases} {w : List ℕ} {t v : ℕ} where
     pub ready : Ready lim b w v
     ready = record { laid = f.held.laid; long = f.held.long; small = f.held.small; low = low f.held }
 
-    settle-count : (n : ℕ) → n + 1 ≡ get_or w (b.dependencies + v) 0 → 0 < n → Drives (Held lim b) b.states w t (v ∷ []) (set w (b.dependencies + v) n) t []
-    settle-count n e p =
+    settle_count : (n : ℕ) → n + 1 ≡ get_or w (b.dependencies + v) 0 → 0 < n → Drives (Held lim b) b.states w t (v ∷ []) (set w (b.dependencies + v) n) t []
+    settle_count n e p =
         let r = ready in let l = r.laid in
         record {
           frame = take-set-le b.states w (b.dependencies + v) n (omega arith);
           size = length-set w (b.dependencies + v) n;
-          keeps = λ c more h. held-count h n e p;
+          keeps = λ c more h. held_count h n e p;
         }
 
     -- not the last thing: a count of nothing is stored as it was
-    pub settle-wait : (n : ℕ) → n ≡ get_or w (b.dependencies + v) 0 → n ≢ 1 → (m : ℕ) → m ≡ n - 1 → Drives (Held lim b) b.states w t (v ∷ []) (set w (b.dependencies + v) m) t []
-    settle-wait zero e k m q =
+    pub settle_wait : (n : ℕ) → n ≡ get_or w (b.dependencies + v) 0 → n ≢ 1 → (m : ℕ) → m ≡ n - 1 → Drives (Held lim b) b.states w t (v ∷ []) (set w (b.dependencies + v) m) t []
+    settle_wait zero e k m q =
         let z : m ≡ get_or w (b.dependencies + v) 0 = omega arith in
-        rw (ap (set w (b.dependencies + v)) z ∙ set-get_or w (b.dependencies + v) 0) (record { frame = refl; size = refl; keeps = λ c more h. held-idle h (sym e) })
-    settle-wait (suc n) e k m q = settle-count m (omega arith) (omega arith)
+        rw (ap (set w (b.dependencies + v)) z ∙ set-get_or w (b.dependencies + v) 0) (record { frame = refl; size = refl; keeps = λ c more h. held_idle h (sym e) })
+    settle_wait (suc n) e k m q = settle_count m (omega arith) (omega arith)
 
     module _ (e : get_or w (b.dependencies + v) 0 ≡ 1) where
-      pub settle-room : t < b.atoms + b.nodes
-      settle-room = room f.held 0 (sym e)
+      pub settle_room : t < b.atoms + b.nodes
+      settle_room = room f.held 0 (sym e)
 
-      pub settle-found : Drives (Held lim b) b.states w t (v ∷ []) (set (set w (b.dependencies + v) 0) (b.queue + t) v) (t + 1) []
-      settle-found =
+      pub settle_found : Drives (Held lim b) b.states w t (v ∷ []) (set (set w (b.dependencies + v) 0) (b.queue + t) v) (t + 1) []
+      settle_found =
           let r = ready in let l = r.laid in
           record {
             frame = take-set-le b.states (set w (b.dependencies + v) 0) (b.queue + t) v (omega arith) ∙ take-set-le b.states w (b.dependencies + v) 0 (omega arith);
@@ -122,5 +122,5 @@ module _ {lim : ℕ} {b : Bases} {w : List ℕ} {t v : ℕ} where
           }
 
 -- the words are as long as the tables
-pub tables-long : {lim : ℕ} {b : Bases} {w : List ℕ} {t : ℕ} {l : List ℕ} → Follows (Held lim b) w t l → b.states ≤ length w
-tables-long f = let k = f.held.laid in let q = f.held.long in omega arith
+pub tables_long : {lim : ℕ} {b : Bases} {w : List ℕ} {t : ℕ} {l : List ℕ} → Follows (Held lim b) w t l → b.states ≤ length w
+tables_long f = let k = f.held.laid in let q = f.held.long in omega arith

@@ -3,45 +3,45 @@
 -- chain of leaves.
 use Rattle.std.specs.Prelude.{◌≡◌, Bool, true, false, cond, List, [], ◌∷◌, map, ℕ, zero, suc, ◌+◌, ◌-◌, ◌≤◌, eqb, ltb, get_or, drop}
 use Rattle.theory.specs.Rows.{entries, flat_map}
-use Rattle.theory.specs.Words.{nodeAt, chain, theoryOf}
+use Rattle.theory.specs.Words.{node_at, chain, theory_of}
 use Rattle.theory.specs.Links.{MeetsOnce}
-use Rattle.graph.specs.Kinds.{takesOperand}
-use Rattle.adjacency.specs.Tables.{edgesOf}
+use Rattle.graph.specs.Kinds.{takes_operand}
+use Rattle.adjacency.specs.Tables.{edges_of}
 use Rattle.adjacency.specs.declared.Table.TheVariants.{ByHead}
 use Rattle.finishing.specs.declared.Entry.{Entry}
 use Rattle.finishing.specs.declared.Entry.TheVariants.{Vertex, Done}
 
 module _ (ws : List ℕ) where
   -- the vertex of a body; a fact has none
-  unfoldable pub bodyVertex : ℕ → List ℕ
-  bodyVertex zero = []
-  bodyVertex (suc n) = ((theoryOf ws).atoms + n) ∷ []
+  unfoldable pub body_vertex : ℕ → List ℕ
+  body_vertex zero = []
+  body_vertex (suc n) = ((theory_of ws).atoms + n) ∷ []
 
-  unfoldable pub atomLeft : ℕ → ℕ → List ℕ
-  atomLeft a c = flat_map (λ p. bodyVertex ((theoryOf ws).body p)) (drop c (entries a (edgesOf (theoryOf ws) ByHead)))
+  unfoldable pub atom_left : ℕ → ℕ → List ℕ
+  atom_left a c = flat_map (λ p. body_vertex ((theory_of ws).body p)) (drop c (entries a (edges_of (theory_of ws) ByHead)))
 
   -- node n takes an operand
-  abbrev pub hasOperand : ℕ → Bool
-  hasOperand n = takesOperand ((theoryOf ws).kind n)
+  abbrev pub has_operand : ℕ → Bool
+  has_operand n = takes_operand ((theory_of ws).kind n)
 
-  unfoldable pub nodeLeft : Bool → ℕ → ℕ → List ℕ
-  nodeLeft true n c = cond (eqb c 0) [] ((theoryOf ws).operand n ∷ [])
-  nodeLeft false n c = map (λ m. (theoryOf ws).atoms + m) (chain ws c)
+  unfoldable pub node_left : Bool → ℕ → ℕ → List ℕ
+  node_left true n c = cond (eqb c 0) [] ((theory_of ws).operand n ∷ [])
+  node_left false n c = map (λ m. (theory_of ws).atoms + m) (chain ws c)
 
-  unfoldable pub nodeFirst : Bool → ℕ → ℕ
-  nodeFirst true n = 1
-  nodeFirst false n = get_or ws (nodeAt n + 2) 0
+  unfoldable pub node_first : Bool → ℕ → ℕ
+  node_first true n = 1
+  node_first false n = get_or ws (node_at n + 2) 0
 
   -- what the cursor c of vertex v leaves, and the cursor that leaves every predecessor
   unfoldable pub left_of : ℕ → ℕ → List ℕ
-  left_of v c = cond (ltb v (theoryOf ws).atoms) (atomLeft v c) (nodeLeft (hasOperand (v - (theoryOf ws).atoms)) (v - (theoryOf ws).atoms) c)
+  left_of v c = cond (ltb v (theory_of ws).atoms) (atom_left v c) (node_left (has_operand (v - (theory_of ws).atoms)) (v - (theory_of ws).atoms) c)
 
   unfoldable pub first_of : ℕ → ℕ
-  first_of v = cond (ltb v (theoryOf ws).atoms) 0 (nodeFirst (hasOperand (v - (theoryOf ws).atoms)) (v - (theoryOf ws).atoms))
+  first_of v = cond (ltb v (theory_of ws).atoms) 0 (node_first (has_operand (v - (theory_of ws).atoms)) (v - (theory_of ws).atoms))
 
   -- a cursor into a chain is a link from which the chain ends
   abbrev pub Linked : ℕ → ℕ → Type 0
-  Linked v c = (theoryOf ws).atoms ≤ v → hasOperand (v - (theoryOf ws).atoms) ≡ false → MeetsOnce ws c
+  Linked v c = (theory_of ws).atoms ≤ v → has_operand (v - (theory_of ws).atoms) ≡ false → MeetsOnce ws c
 
 -- what a look finds, where l is left before and l' after
 abbrev pub Took : Entry → List ℕ → List ℕ → Type 0

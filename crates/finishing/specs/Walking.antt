@@ -1,40 +1,40 @@
 -- How the words hold the first walk: marks, cursors, the stack from `queue` on and the finished vertices from `body_nodes` on; and what each
 -- function of the walk does to them.
 use Rattle.std.specs.Prelude.{◌≡◌, ◌≢◌, cond, List, ℕ, ◌+◌, ◌-◌, ◌≤◌, ◌<◌, eqb, length, get_or, set}
-use Rattle.theory.specs.Sets.{sumBelow}
-use Rattle.theory.specs.Words.{theoryOf}
-use Rattle.theory.specs.Edges.{vertices, inGraph, conePreds}
+use Rattle.theory.specs.Sets.{sum_below}
+use Rattle.theory.specs.Words.{theory_of}
+use Rattle.theory.specs.Edges.{vertices, in_graph, cone_preds}
 use Rattle.theory.specs.Search.{Searching}
 use Rattle.area.specs.declared.Bases.{Bases}
 use Rattle.finishing.specs.declared.Entry.{Entry}
 use Rattle.finishing.specs.declared.Entry.TheVariants.{Vertex, Done}
-use Rattle.area.specs.Views.{mark_of, markIn}
+use Rattle.area.specs.Views.{mark_of, mark_in}
 use Rattle.finishing.specs.Latest.{latest}
 use Rattle.finishing.specs.Finished.{Kept, Ready}
 use Rattle.finishing.specs.Cursors.{left_of, first_of, Linked, Took}
 
 module _ (ws : List ℕ) (b : Bases) where
   -- the cursor of v: its word once v is met, and before that the one that its word is to get
-  unfoldable pub cursorIn : List ℕ → ℕ → ℕ
-  cursorIn w v = cond (eqb (markIn b w v) 2) (get_or w (b.dependencies + v) 0) (first_of ws v)
+  unfoldable pub cursor_in : List ℕ → ℕ → ℕ
+  cursor_in w v = cond (eqb (mark_in b w v) 2) (get_or w (b.dependencies + v) 0) (first_of ws v)
 
-  abbrev pub entriesIn : List ℕ → ℕ → List ℕ
-  entriesIn w v = left_of ws v (cursorIn w v)
+  abbrev pub entries_in : List ℕ → ℕ → List ℕ
+  entries_in w v = left_of ws v (cursor_in w v)
 
   pub record Walking (w : List ℕ) (top done : ℕ) : Type 0 where
     pub ready : Ready ws b w
-    pub linked : (v : ℕ) → v < vertices (theoryOf ws) → Linked ws v (cursorIn w v)
-    pub search : Searching (vertices (theoryOf ws)) (conePreds (theoryOf ws)) (inGraph (theoryOf ws)) (latest w b.queue top) (latest w b.body_nodes done)
-        (markIn b w) (λ v. entriesIn w v)
+    pub linked : (v : ℕ) → v < vertices (theory_of ws) → Linked ws v (cursor_in w v)
+    pub search : Searching (vertices (theory_of ws)) (cone_preds (theory_of ws)) (in_graph (theory_of ws)) (latest w b.queue top) (latest w b.body_nodes done)
+        (mark_in b w) (λ v. entries_in w v)
 
   -- what is still to do: entries to look at, and vertices to finish
   unfoldable pub ahead : List ℕ → ℕ → ℕ
-  ahead w done = sumBelow (vertices (theoryOf ws)) (λ v. length (entriesIn w v)) + (vertices (theoryOf ws) - done)
+  ahead w done = sum_below (vertices (theory_of ws)) (λ v. length (entries_in w v)) + (vertices (theory_of ws) - done)
 
   -- the cursor of v may be moved
   pub record Looking (w : List ℕ) (v : ℕ) : Type 0 where
     pub ready : Ready ws b w
-    pub low : v < vertices (theoryOf ws)
+    pub low : v < vertices (theory_of ws)
     pub linked : Linked ws v (get_or w (b.dependencies + v) 0)
 
   pub record Moved (w w' : List ℕ) (v : ℕ) : Type 0 where
@@ -51,7 +51,7 @@ module _ (ws : List ℕ) (b : Bases) where
   pub record OnTop (w : List ℕ) (v top done : ℕ) : Type 0 where
     pub walking : Walking w top done
     pub some : 0 < top
-    pub top-is : v ≡ get_or w (b.queue + (top - 1)) 0
+    pub top_is : v ≡ get_or w (b.queue + (top - 1)) 0
 
   -- v is met, with `top` others on the stack
   abbrev pub discovered : List ℕ → (v top : ℕ) → List ℕ
@@ -59,20 +59,20 @@ module _ (ws : List ℕ) (b : Bases) where
 
   pub record Meeting (w : List ℕ) (v top : ℕ) : Type 0 where
     pub ready : Ready ws b w
-    pub low : v < vertices (theoryOf ws)
-    pub room : top < vertices (theoryOf ws)
+    pub low : v < vertices (theory_of ws)
+    pub room : top < vertices (theory_of ws)
 
   -- a root is met, unless it is known, with r vertices on the stack then
   pub data Entered (w w' : List ℕ) (root r : ℕ) : Type 0 where
-    known : markIn b w root ≢ 1 → w' ≡ w → r ≡ 0 → Entered w w' root r
-    new : markIn b w root ≡ 1 → w' ≡ discovered w root 0 → r ≡ 1 → Entered w w' root r
+    known : mark_in b w root ≢ 1 → w' ≡ w → r ≡ 0 → Entered w w' root r
+    new : mark_in b w root ≡ 1 → w' ≡ discovered w root 0 → r ≡ 1 → Entered w w' root r
 
   -- the walk from w to w'
   pub record Walked (w w' : List ℕ) (top done : ℕ) : Type 0 where
     pub walking : Walking w' top done
     pub kept : Kept b w w'
     -- no vertex becomes one to be met
-    pub settled : (v : ℕ) → v < vertices (theoryOf ws) → markIn b w v ≢ 1 → markIn b w' v ≢ 1
+    pub settled : (v : ℕ) → v < vertices (theory_of ws) → mark_in b w v ≢ 1 → mark_in b w' v ≢ 1
 
   -- the walk, with no more to do in w' than in w
   pub record Onward (w w' : List ℕ) (top done done₀ : ℕ) : Type 0 where
@@ -86,7 +86,7 @@ module _ (ws : List ℕ) (b : Bases) where
 
   -- a vertex that is found is still to be met
   abbrev pub Fresh : List ℕ → Entry → Type 0
-  Fresh w (Vertex x) = markIn b w x ≡ 1
+  Fresh w (Vertex x) = mark_in b w x ≡ 1
   Fresh w Done = Unit {0}
 
   -- the walk, were c the cursor of v: what is before c leads to vertices that are met, or nowhere
@@ -103,4 +103,4 @@ module _ (ws : List ℕ) (b : Bases) where
   -- the walk from a root
   pub record Descended (w w' : List ℕ) (root done : ℕ) : Type 0 where
     pub walked : Walked w w' 0 done
-    pub passed : markIn b w' root ≢ 1
+    pub passed : mark_in b w' root ≢ 1

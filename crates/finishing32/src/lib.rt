@@ -2,12 +2,12 @@
 // The first walk of Sharir (1981): from a vertex to its predecessors, with a stack and a cursor a vertex, which lists the vertices of preparation
 // in a finishing order. A vertex is marked 1 until it is met and 2 from then on; what is marked 0 is outside.
 ghost use Rattle.std.specs.Prelude.{◌≡◌, ◌≢◌, true, false, ℕ, ◌+◌, ◌-◌, ◌<◌, ◌≤◌, eqb, length, get_or, set};
-ghost use Rattle.theory.specs.Words.{theoryOf};
+ghost use Rattle.theory.specs.Words.{theory_of};
 ghost use Rattle.theory.specs.Edges.{vertices};
 ghost use Rattle.theory.specs.Accepted.{Accepted, edition2};
 ghost use Rattle.area.specs.Layout.{Laid};
-ghost use Rattle.area.specs.Views.{markIn};
-ghost use Rattle.finishing.specs.Cursors.{hasOperand, first_of};
+ghost use Rattle.area.specs.Views.{mark_in};
+ghost use Rattle.finishing.specs.Cursors.{has_operand, first_of};
 ghost use Rattle.finishing.specs.Finished.{Ready, Marked, Finished};
 ghost use Rattle.finishing.specs.Walking.{Walking, OnTop, Found, Meeting, discovered, Onward, Stepped, Entered, Descended};
 
@@ -16,7 +16,7 @@ use finishing::{Entry, Tops};
 
 // The cursor of a vertex before any of its entries is looked at.
 fn first_entry(graph: &[u32], b: Bases, v: usize) -> usize
-    requires { Accepted edition2 graph.now × (v < vertices (theoryOf graph.now)) × (b.atoms ≡ (theoryOf graph.now).atoms) }
+    requires { Accepted edition2 graph.now × (v < vertices (theory_of graph.now)) × (b.atoms ≡ (theory_of graph.now).atoms) }
     ensures { result ≡ first_of graph.now v }
 {
     if v < b.atoms {
@@ -32,7 +32,7 @@ fn first_entry(graph: &[u32], b: Bases, v: usize) -> usize
 // Whether vertex v is still to be met.
 fn is_new(work: &[u32], b: Bases, v: usize) -> bool
     requires { Laid b × (v < b.atoms + b.nodes) × (b.end ≤ length work.now) }
-    ensures { result ≡ eqb (markIn b work.now v) 1 }
+    ensures { result ≡ eqb (mark_in b work.now v) 1 }
 {
     graph32::at(work, b.states + v) == 1
 }
@@ -72,7 +72,7 @@ fn look_atom(graph: &[u32], work: &mut [u32], b: Bases, a: usize) -> Entry
 
 // The next leaf of a node that is still to be met.
 fn look_leaf(graph: &[u32], work: &mut [u32], b: Bases, v: usize) -> Entry
-    requires { Accepted edition2 graph.now × ((top : ℕ) × (done : ℕ) × OnTop graph.now b work.old v top done) × (b.atoms ≤ v) × (hasOperand graph.now (v - b.atoms) ≡ false) }
+    requires { Accepted edition2 graph.now × ((top : ℕ) × (done : ℕ) × OnTop graph.now b work.old v top done) × (b.atoms ≤ v) × (has_operand graph.now (v - b.atoms) ≡ false) }
     ensures { Found graph.now b work.old work.new v result }
 {
     let from = graph32::links_from(graph);
@@ -92,7 +92,7 @@ fn look_leaf(graph: &[u32], work: &mut [u32], b: Bases, v: usize) -> Entry
 
 // The operand of a node, which has not been looked at, unless it has been met.
 fn take_operand(graph: &[u32], work: &mut [u32], b: Bases, v: usize) -> Entry
-    requires accepted { Accepted edition2 graph.now × ((top : ℕ) × (done : ℕ) × OnTop graph.now b work.old v top done) × (b.atoms ≤ v) × (hasOperand graph.now (v - b.atoms) ≡ true) }
+    requires accepted { Accepted edition2 graph.now × ((top : ℕ) × (done : ℕ) × OnTop graph.now b work.old v top done) × (b.atoms ≤ v) × (has_operand graph.now (v - b.atoms) ≡ true) }
     requires v_nonzero { get_or work.old (b.dependencies + v) 0 ≢ 0 }
     ensures { Found graph.now b work.old work.new v result }
 {
@@ -107,7 +107,7 @@ fn take_operand(graph: &[u32], work: &mut [u32], b: Bases, v: usize) -> Entry
 
 // The operand of a node, unless it has been looked at or met.
 fn look_operand(graph: &[u32], work: &mut [u32], b: Bases, v: usize) -> Entry
-    requires { Accepted edition2 graph.now × ((top : ℕ) × (done : ℕ) × OnTop graph.now b work.old v top done) × (b.atoms ≤ v) × (hasOperand graph.now (v - b.atoms) ≡ true) }
+    requires { Accepted edition2 graph.now × ((top : ℕ) × (done : ℕ) × OnTop graph.now b work.old v top done) × (b.atoms ≤ v) × (has_operand graph.now (v - b.atoms) ≡ true) }
     ensures { Found graph.now b work.old work.new v result }
 {
     if graph32::at(work, b.dependencies + v) == 0 {
@@ -181,7 +181,7 @@ fn step(graph: &[u32], work: &mut [u32], b: Bases, top: usize, done: usize) -> T
 
 // A root is met, if it is still to be met; answers how many are on the stack.
 fn enter(graph: &[u32], work: &mut [u32], b: Bases, root: usize) -> usize
-    requires { Accepted edition2 graph.now × Ready graph.now b work.old × (root < vertices (theoryOf graph.now)) }
+    requires { Accepted edition2 graph.now × Ready graph.now b work.old × (root < vertices (theory_of graph.now)) }
     ensures { Entered graph.now b work.old work.new root result }
 {
     if is_new(work, b, root) {
@@ -193,7 +193,7 @@ fn enter(graph: &[u32], work: &mut [u32], b: Bases, root: usize) -> usize
 
 // The walk from one root, if it is still to be met.
 fn descend(graph: &[u32], work: &mut [u32], b: Bases, root: usize, done: usize) -> usize
-    requires { Accepted edition2 graph.now × Walking graph.now b work.old 0 done × (root < vertices (theoryOf graph.now)) }
+    requires { Accepted edition2 graph.now × Walking graph.now b work.old 0 done × (root < vertices (theory_of graph.now)) }
     ensures { Descended graph.now b work.old work.new root result }
 {
     let mut top = enter(graph, work, b, root);

@@ -5,21 +5,21 @@ use mathlib.Core.List.{List}
 use Prim.Native.Nat.{ℕ}
 use borrow.Author.Tests.{eq-eqb}
 use Rattle.theory.specs.Sets.{Set, ◌⊆◌}
-use Rattle.theory.specs.Words.{theoryOf, bit_at}
+use Rattle.theory.specs.Words.{theory_of, bit_at}
 use Rattle.theory.specs.Accepted.{Edition}
 use Rattle.theory.specs.Founded.{missing}
 use Rattle.theory.specs.Unfounded.{Unfounded}
-use Rattle.theory.proofs.UnfoundedLaws.{missing-unfounded, unfounded-missing}
+use Rattle.theory.proofs.UnfoundedLaws.{missing_unfounded, unfounded_missing}
 use Rattle.founded.specs.declared.Completed.{Completed}
-use Rattle.founded.specs.Answers.{completedOf, Completes}
-use Rattle.founded.proofs.OutputLaws.{missing-list}
+use Rattle.founded.specs.Answers.{completed_of, Completes}
+use Rattle.founded.proofs.OutputLaws.{missing_list}
 
-module _ {ed : Edition} {ws never atomNever output work output' work' : List ℕ} {r : Completed} (h : Completes ed ws never atomNever output work output' work' r) (success : (completedOf r).number ≡ 0) where
-  pub list-missing : bit_at output' ≡ missing (theoryOf ws) (bit_at never) (bit_at atomNever)
-  list-missing = rw (h.output-after, eq-eqb (completedOf r).number 0 success) (missing-list ws (bit_at never) (bit_at atomNever))
+module _ {ed : Edition} {ws never atom_never output work output' work' : List ℕ} {r : Completed} (h : Completes ed ws never atom_never output work output' work' r) (success : (completed_of r).number ≡ 0) where
+  pub list_missing : bit_at output' ≡ missing (theory_of ws) (bit_at never) (bit_at atom_never)
+  list_missing = rw (h.output_after, eq-eqb (completed_of r).number 0 success) (missing_list ws (bit_at never) (bit_at atom_never))
 
-  pub list-unfounded : Unfounded (theoryOf ws) (bit_at never) (bit_at atomNever) (bit_at output')
-  list-unfounded = subst (Unfounded (theoryOf ws) (bit_at never) (bit_at atomNever)) (sym list-missing) (missing-unfounded (theoryOf ws) (bit_at never) (bit_at atomNever))
+  pub list_unfounded : Unfounded (theory_of ws) (bit_at never) (bit_at atom_never) (bit_at output')
+  list_unfounded = subst (Unfounded (theory_of ws) (bit_at never) (bit_at atom_never)) (sym list_missing) (missing_unfounded (theory_of ws) (bit_at never) (bit_at atom_never))
 
-  pub list-largest : (u : Set) → Unfounded (theoryOf ws) (bit_at never) (bit_at atomNever) u → u ⊆ bit_at output'
-  list-largest u f = subst (λ (s : Set). u ⊆ s) (sym list-missing) (unfounded-missing (theoryOf ws) (bit_at never) (bit_at atomNever) u f)
+  pub list_largest : (u : Set) → Unfounded (theory_of ws) (bit_at never) (bit_at atom_never) u → u ⊆ bit_at output'
+  list_largest u f = subst (λ (s : Set). u ⊆ s) (sym list_missing) (unfounded_missing (theory_of ws) (bit_at never) (bit_at atom_never) u f)

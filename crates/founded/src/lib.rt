@@ -1,11 +1,11 @@
 // Preparation and the pass (document 01, "Preparation" and "Pass"): the two public calls.
 ghost use Rattle.std.specs.Prelude.{◌≡◌, false, ◌+◌, ◌≤◌, eqb, length, get_or, replicate};
-ghost use Rattle.theory.specs.Words.{theoryOf};
-ghost use Rattle.theory.specs.Accepted.{edition1, areaOf};
+ghost use Rattle.theory.specs.Words.{theory_of};
+ghost use Rattle.theory.specs.Accepted.{edition1, area_of};
 ghost use Rattle.mask.specs.Mask.{words_of, pack};
 ghost use Rattle.refusals.specs.Answer.{accept};
-ghost use Rattle.refusals.specs.Refusals.{graphAnswer};
-ghost use Rattle.founded.specs.Answers.{badMask, badLengths, Prepares, Completes};
+ghost use Rattle.refusals.specs.Refusals.{graph_answer};
+ghost use Rattle.founded.specs.Answers.{bad_mask, bad_lengths, Prepares, Completes};
 
 use preparation::Marks;
 use refusals::Checked;
@@ -31,7 +31,7 @@ pub enum Completed {
 
 // Whether a mask, or an output, has another length than one over so many numbers.
 fn bad_mask(count: usize, words: usize) -> bool
-    ensures { result ≡ badMask count words }
+    ensures { result ≡ bad_mask count words }
 {
     words != mask::words(count)
 }
@@ -49,7 +49,7 @@ fn hand_out(words: &mut [u16], from: usize, atoms: usize, output: &mut [u64])
 
 // Preparation after refusals 1 to 11.
 fn prepare_accepted(graph: &[u16], output: &mut [u64], work: &mut [u16]) -> Prepared
-    requires { (graphAnswer edition1 graph.now ≡ accept) × (badMask (get_or graph.now 1 0) (length output.old) ≡ false) × (length work.old ≡ areaOf edition1 (theoryOf graph.now)) }
+    requires { (graph_answer edition1 graph.now ≡ accept) × (bad_mask (get_or graph.now 1 0) (length output.old) ≡ false) × (length work.old ≡ area_of edition1 (theory_of graph.now)) }
     ensures { Prepares edition1 graph.now output.old work.old output.new work.new result }
 {
     let words = work.len();
@@ -87,7 +87,7 @@ pub fn prepare(graph: &[u16], output: &mut [u64], work: &mut [u16]) -> Prepared
 // Refusal 10 of the pass.
 fn bad_lengths(graph: &[u16], never: usize, atom_never: usize, output: usize) -> bool
     requires { 5 ≤ length graph.now }
-    ensures { result ≡ badLengths graph.now never atom_never output }
+    ensures { result ≡ bad_lengths graph.now never atom_never output }
 {
     let atoms = graph::atoms(graph);
     if bad_mask(graph::nodes(graph), never) {
@@ -107,7 +107,7 @@ fn complete_accepted(
     output: &mut [u64],
     work: &mut [u16],
 ) -> Completed
-    requires { (graphAnswer edition1 graph.now ≡ accept) × (badLengths graph.now (length never.now) (length atom_never.now) (length output.old) ≡ false) × (length work.old ≡ areaOf edition1 (theoryOf graph.now)) }
+    requires { (graph_answer edition1 graph.now ≡ accept) × (bad_lengths graph.now (length never.now) (length atom_never.now) (length output.old) ≡ false) × (length work.old ≡ area_of edition1 (theory_of graph.now)) }
     ensures { Completes edition1 graph.now never.now atom_never.now output.old work.old output.new work.new result }
 {
     let words = work.len();

@@ -1,12 +1,12 @@
 // Written by tools/widen from crates/founded/src/lib.rt: edit that one.
 // Preparation and the pass (document 01, "Preparation" and "Pass"): the two public calls.
 ghost use Rattle.std.specs.Prelude.{◌≡◌, false, ◌+◌, ◌≤◌, eqb, length, get_or, replicate};
-ghost use Rattle.theory.specs.Words.{theoryOf};
-ghost use Rattle.theory.specs.Accepted.{edition2, areaOf};
+ghost use Rattle.theory.specs.Words.{theory_of};
+ghost use Rattle.theory.specs.Accepted.{edition2, area_of};
 ghost use Rattle.mask.specs.Mask.{words_of, pack};
 ghost use Rattle.refusals.specs.Answer.{accept};
-ghost use Rattle.refusals.specs.Refusals.{graphAnswer};
-ghost use Rattle.founded.specs.Answers.{badMask, badLengths, Prepares, Completes};
+ghost use Rattle.refusals.specs.Refusals.{graph_answer};
+ghost use Rattle.founded.specs.Answers.{bad_mask, bad_lengths, Prepares, Completes};
 
 use founded::{Completed, Prepared};
 use preparation::Marks;
@@ -14,7 +14,7 @@ use refusals::Checked;
 
 // Whether a mask, or an output, has another length than one over so many numbers.
 fn bad_mask(count: usize, words: usize) -> bool
-    ensures { result ≡ badMask count words }
+    ensures { result ≡ bad_mask count words }
 {
     words != mask::words(count)
 }
@@ -32,7 +32,7 @@ fn hand_out(words: &mut [u32], from: usize, atoms: usize, output: &mut [u64])
 
 // Preparation after refusals 1 to 11.
 fn prepare_accepted(graph: &[u32], output: &mut [u64], work: &mut [u32]) -> Prepared
-    requires { (graphAnswer edition2 graph.now ≡ accept) × (badMask (get_or graph.now 1 0) (length output.old) ≡ false) × (length work.old ≡ areaOf edition2 (theoryOf graph.now)) }
+    requires { (graph_answer edition2 graph.now ≡ accept) × (bad_mask (get_or graph.now 1 0) (length output.old) ≡ false) × (length work.old ≡ area_of edition2 (theory_of graph.now)) }
     ensures { Prepares edition2 graph.now output.old work.old output.new work.new result }
 {
     let words = work.len();
@@ -70,7 +70,7 @@ pub fn prepare(graph: &[u32], output: &mut [u64], work: &mut [u32]) -> Prepared
 // Refusal 10 of the pass.
 fn bad_lengths(graph: &[u32], never: usize, atom_never: usize, output: usize) -> bool
     requires { 5 ≤ length graph.now }
-    ensures { result ≡ badLengths graph.now never atom_never output }
+    ensures { result ≡ bad_lengths graph.now never atom_never output }
 {
     let atoms = graph32::atoms(graph);
     if bad_mask(graph32::nodes(graph), never) {
@@ -90,7 +90,7 @@ fn complete_accepted(
     output: &mut [u64],
     work: &mut [u32],
 ) -> Completed
-    requires { (graphAnswer edition2 graph.now ≡ accept) × (badLengths graph.now (length never.now) (length atom_never.now) (length output.old) ≡ false) × (length work.old ≡ areaOf edition2 (theoryOf graph.now)) }
+    requires { (graph_answer edition2 graph.now ≡ accept) × (bad_lengths graph.now (length never.now) (length atom_never.now) (length output.old) ≡ false) × (length work.old ≡ area_of edition2 (theory_of graph.now)) }
     ensures { Completes edition2 graph.now never.now atom_never.now output.old work.old output.new work.new result }
 {
     let words = work.len();

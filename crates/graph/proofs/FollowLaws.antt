@@ -6,7 +6,7 @@ use native.Mathlib.Omega.{arith}
 use lib.ListN.{length, get_or}
 use Rattle.theory.specs.Words.{next_of, chain}
 use Rattle.theory.specs.Links.{MeetsOnce}
-use Rattle.theory.proofs.ChainLaws.{once-next, chain-end, chain-step, chain-falls, chain-few}
+use Rattle.theory.proofs.ChainLaws.{once_next, chain_end, chain_step, chain_falls, chain_few}
 
 -- n entries come before link l
 pub record Counted (ws : List ℕ) (first n l : ℕ) : Type 0 where
@@ -17,15 +17,15 @@ pub counted_none : {ws : List ℕ} {first : ℕ} → MeetsOnce ws first → Coun
 counted_none e = record { once = e; counted = omega arith }
 
 module _ {ws : List ℕ} {first n l : ℕ} (c : Counted ws first n l) where
-  pub counted-end : l ≡ 0 → n ≡ length (chain ws first)
-  counted-end z = let e = ap length (ap (chain ws) z ∙ chain-end ws) in let k = c.counted in omega arith
+  pub counted_end : l ≡ 0 → n ≡ length (chain ws first)
+  counted_end z = let e = ap length (ap (chain ws) z ∙ chain_end ws) in let k = c.counted in omega arith
 
-  pub counted-few : n ≤ get_or ws 4 0
-  counted-few = let k = c.counted in let m = chain-few ws first in omega arith
+  pub counted_few : n ≤ get_or ws 4 0
+  counted_few = let k = c.counted in let m = chain_few ws first in omega arith
 
   module _ (z : l ≡ 0 → ⊥) {m : ℕ} (e : m ≡ next_of ws l) where
-    pub counted-less : length (chain ws m) < length (chain ws l)
-    counted-less = rw e (chain-falls ws c.once z)
+    pub counted_less : length (chain ws m) < length (chain ws l)
+    counted_less = rw e (chain_falls ws c.once z)
 
     pub counted_next : Counted ws first (n + 1) m
-    counted_next = let h = ap length (chain-step ws c.once z) in let k = c.counted in record { once = rw e (once-next ws c.once z); counted = rw e (omega arith) }
+    counted_next = let h = ap length (chain_step ws c.once z) in let k = c.counted in record { once = rw e (once_next ws c.once z); counted = rw e (omega arith) }

@@ -6,11 +6,11 @@ use Prim.Native.Nat.{ℕ, ◌≤◌}
 use native.Mathlib.Omega.{arith}
 use lib.Dec.{eqb}
 use lib.ListN.{get_or}
-use Rattle.theory.specs.Sets.{Is, anyBelow}
+use Rattle.theory.specs.Sets.{Is, any_below}
 use Rattle.theory.specs.Theory.{joins}
 use Rattle.theory.specs.Words.{kind_of}
 use Rattle.theory.proofs.SetLaws.{clash, below_holds}
-use Rattle.graph.specs.Kinds.{takesOperand, waitsForOne, waitsForAll, startsTrue, row_of}
+use Rattle.graph.specs.Kinds.{takes_operand, waits_for_one, waits_for_all, starts_true, row_of}
 
 -- `KINDS` of the code
 abbrev pub kinds : List (List ℕ)
@@ -39,10 +39,10 @@ agree false false h = refl
 abbrev wrong : ℕ → ℕ → Bool
 wrong k j = differ (eqb (get_or (get_or kinds k []) j 0) 1) (get_or (row_of (kind_of k)) j false)
 
-none-wrong : anyBelow 8 (λ k. anyBelow 5 (wrong k)) ≡ false
-unfolding anyBelow kind_of joins takesOperand waitsForOne waitsForAll startsTrue
-none-wrong = refl
+none_wrong : any_below 8 (λ k. any_below 5 (wrong k)) ≡ false
+unfolding any_below kind_of joins takes_operand waits_for_one waits_for_all starts_true
+none_wrong = refl
 
-pub table-says : (k j : ℕ) → k ≤ 7 → j ≤ 4 → eqb (get_or (get_or kinds k []) j 0) 1 ≡ get_or (row_of (kind_of k)) j false
-table-says k j a b =
-    agree _ _ (λ w. clash (below_holds 8 (λ m. anyBelow 5 (wrong m)) k (omega arith) (below_holds 5 (wrong k) j (omega arith) w)) none-wrong)
+pub table_says : (k j : ℕ) → k ≤ 7 → j ≤ 4 → eqb (get_or (get_or kinds k []) j 0) 1 ≡ get_or (row_of (kind_of k)) j false
+table_says k j a b =
+    agree _ _ (λ w. clash (below_holds 8 (λ m. any_below 5 (wrong m)) k (omega arith) (below_holds 5 (wrong k) j (omega arith) w)) none_wrong)

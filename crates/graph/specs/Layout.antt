@@ -1,14 +1,14 @@
 -- Where chains begin, and what the accessors ask of the words.
 use Rattle.std.specs.Prelude.{◌≡◌, List, ℕ, ◌+◌, ◌-◌, ◌*◌, ◌≤◌, ◌<◌, length, get_or}
-use Rattle.theory.specs.Words.{nodeAt, producerAt}
+use Rattle.theory.specs.Words.{node_at, producer_at}
 use Rattle.theory.specs.Accepted.{size_of}
 
 -- the first link of a node's leaves, of a producer's heads
-abbrev pub leafLink : List ℕ → ℕ → ℕ
-leafLink ws n = get_or ws (nodeAt n + 2) 0
+abbrev pub leaf_link : List ℕ → ℕ → ℕ
+leaf_link ws n = get_or ws (node_at n + 2) 0
 
-abbrev pub headLink : List ℕ → ℕ → ℕ
-headLink ws p = get_or ws (producerAt ws p + 1) 0
+abbrev pub head_link : List ℕ → ℕ → ℕ
+head_link ws p = get_or ws (producer_at ws p + 1) 0
 
 -- the number is one of a node or a producer, and its record lies within the words
 pub record NodeIn (ws : List ℕ) (n : ℕ) : Type 0 where
@@ -28,8 +28,8 @@ pub record LinkIn (ws : List ℕ) (from l : ℕ) : Type 0 where
   pub some : 0 < l
   pub within : from + 2 * l ≤ length ws
 
-unfoldable pub valueIn : List ℕ → (from l : ℕ) → ℕ
-valueIn ws from l = get_or ws (from + 2 * l - 2) 0
+unfoldable pub value_in : List ℕ → (from l : ℕ) → ℕ
+value_in ws from l = get_or ws (from + 2 * l - 2) 0
 
-unfoldable pub nextIn : List ℕ → (from l : ℕ) → ℕ
-nextIn ws from l = get_or ws (from + 2 * l - 1) 0
+unfoldable pub next_in : List ℕ → (from l : ℕ) → ℕ
+next_in ws from l = get_or ws (from + 2 * l - 1) 0

@@ -1,11 +1,11 @@
 // The graph as lent words (document 01, "The graph as lent words"): the kind table, the header, the records and the reader of chains. Words are read by `at` alone, so that no other function knows how wide one is.
 ghost use Rattle.std.specs.Prelude.{◌≡◌, false, ◌+◌, ◌<◌, ◌≤◌, length, get_or};
 ghost use Rattle.theory.specs.Theory.{joins};
-ghost use Rattle.theory.specs.Words.{kind_of, nodeAt, producerAt, chain};
+ghost use Rattle.theory.specs.Words.{kind_of, node_at, producer_at, chain};
 ghost use Rattle.theory.specs.Links.{MeetsOnce};
 ghost use Rattle.theory.specs.Accepted.{Accepted, edition1, size_of};
-ghost use Rattle.graph.specs.Kinds.{row_of, takesOperand, waitsForOne, waitsForAll, startsTrue};
-ghost use Rattle.graph.specs.Layout.{NodeIn, ProducerIn, LinksFrom, LinkIn, valueIn, nextIn};
+ghost use Rattle.graph.specs.Kinds.{row_of, takes_operand, waits_for_one, waits_for_all, starts_true};
+ghost use Rattle.graph.specs.Layout.{NodeIn, ProducerIn, LinksFrom, LinkIn, value_in, next_in};
 
 // A row a kind: takes an operand, takes links, waits for one, waits for all, starts true.
 const KINDS: [[u8; 5]; 8] = [
@@ -28,7 +28,7 @@ fn says(kind: usize, column: usize) -> bool
 
 pub fn takes_operand(kind: usize) -> bool
     requires { kind ≤ 7 }
-    ensures { result ≡ takesOperand (kind_of kind) }
+    ensures { result ≡ takes_operand (kind_of kind) }
 {
     says(kind, 0)
 }
@@ -42,21 +42,21 @@ pub fn takes_links(kind: usize) -> bool
 
 pub fn waits_for_one(kind: usize) -> bool
     requires { kind ≤ 7 }
-    ensures { result ≡ waitsForOne (kind_of kind) }
+    ensures { result ≡ waits_for_one (kind_of kind) }
 {
     says(kind, 2)
 }
 
 pub fn waits_for_all(kind: usize) -> bool
     requires { kind ≤ 7 }
-    ensures { result ≡ waitsForAll (kind_of kind) }
+    ensures { result ≡ waits_for_all (kind_of kind) }
 {
     says(kind, 3)
 }
 
 pub fn starts_true(kind: usize) -> bool
     requires { kind ≤ 7 }
-    ensures { result ≡ startsTrue (kind_of kind) }
+    ensures { result ≡ starts_true (kind_of kind) }
 {
     says(kind, 4)
 }
@@ -101,21 +101,21 @@ pub fn links(graph: &[u16]) -> usize
 // A node's record.
 pub fn kind(graph: &[u16], n: usize) -> usize
     requires { NodeIn graph.now n }
-    ensures { result ≡ get_or graph.now (nodeAt n) 0 }
+    ensures { result ≡ get_or graph.now (node_at n) 0 }
 {
     at(graph, 5 + 3 * n)
 }
 
 pub fn operand(graph: &[u16], n: usize) -> usize
     requires { NodeIn graph.now n }
-    ensures { result ≡ get_or graph.now (nodeAt n + 1) 0 }
+    ensures { result ≡ get_or graph.now (node_at n + 1) 0 }
 {
     at(graph, 5 + 3 * n + 1)
 }
 
 pub fn first_leaf(graph: &[u16], n: usize) -> usize
     requires { NodeIn graph.now n }
-    ensures { result ≡ get_or graph.now (nodeAt n + 2) 0 }
+    ensures { result ≡ get_or graph.now (node_at n + 2) 0 }
 {
     at(graph, 5 + 3 * n + 2)
 }
@@ -123,21 +123,21 @@ pub fn first_leaf(graph: &[u16], n: usize) -> usize
 // A producer's record: body + 1, where 0 marks a fact, and the first head link.
 fn producer_at(graph: &[u16], p: usize) -> usize
     requires { ProducerIn graph.now p }
-    ensures { result ≡ producerAt graph.now p }
+    ensures { result ≡ producer_at graph.now p }
 {
     5 + 3 * at(graph, 2) + 2 * p
 }
 
 pub fn body(graph: &[u16], p: usize) -> usize
     requires { ProducerIn graph.now p }
-    ensures { result ≡ get_or graph.now (producerAt graph.now p) 0 }
+    ensures { result ≡ get_or graph.now (producer_at graph.now p) 0 }
 {
     at(graph, producer_at(graph, p))
 }
 
 pub fn first_head(graph: &[u16], p: usize) -> usize
     requires { ProducerIn graph.now p }
-    ensures { result ≡ get_or graph.now (producerAt graph.now p + 1) 0 }
+    ensures { result ≡ get_or graph.now (producer_at graph.now p + 1) 0 }
 {
     at(graph, producer_at(graph, p) + 1)
 }
@@ -153,14 +153,14 @@ pub fn links_from(graph: &[u16]) -> usize
 // A link's record, by its number from 1 and where the records begin: its value and the next link.
 fn value_at(graph: &[u16], from: usize, l: usize) -> usize
     requires { LinkIn graph.now from l }
-    ensures { result ≡ valueIn graph.now from l }
+    ensures { result ≡ value_in graph.now from l }
 {
     at(graph, from + 2 * l - 2)
 }
 
 fn next_at(graph: &[u16], from: usize, l: usize) -> usize
     requires { LinkIn graph.now from l }
-    ensures { result ≡ nextIn graph.now from l }
+    ensures { result ≡ next_in graph.now from l }
 {
     at(graph, from + 2 * l - 1)
 }
@@ -187,14 +187,14 @@ pub fn chain_link<'a>(c: Chain<'a>) -> usize
 
 pub fn chain_value<'a>(c: Chain<'a>, from: usize) -> usize
     requires { LinkIn c.words.now from c.link }
-    ensures { result ≡ valueIn c.entry.words.now from c.entry.link }
+    ensures { result ≡ value_in c.entry.words.now from c.entry.link }
 {
     value_at(c.words, from, c.link)
 }
 
 pub fn chain_next<'a>(c: Chain<'a>, from: usize) -> Chain<'a>
     requires { LinkIn c.words.now from c.link }
-    ensures { (result.words ≡ c.entry.words) × (result.link ≡ nextIn c.entry.words.now from c.entry.link) }
+    ensures { (result.words ≡ c.entry.words) × (result.link ≡ next_in c.entry.words.now from c.entry.link) }
 {
     let next = next_at(c.words, from, c.link);
     Chain {
@@ -206,14 +206,14 @@ pub fn chain_next<'a>(c: Chain<'a>, from: usize) -> Chain<'a>
 // What every loop over a chain calls, on the graph's words and where the links begin.
 pub fn value(graph: &[u16], from: usize, l: usize) -> usize
     requires { LinkIn graph.now from l }
-    ensures { result ≡ valueIn graph.now from l }
+    ensures { result ≡ value_in graph.now from l }
 {
     chain_value(chain_of(graph, l), from)
 }
 
 pub fn next(graph: &[u16], from: usize, l: usize) -> usize
     requires { LinkIn graph.now from l }
-    ensures { result ≡ nextIn graph.now from l }
+    ensures { result ≡ next_in graph.now from l }
 {
     chain_link(chain_next(chain_of(graph, l), from))
 }

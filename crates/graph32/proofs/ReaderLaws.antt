@@ -90,20 +90,20 @@ module _ {M : Type 1} {𝓤 : Ura M} (𝓛 : Logic 𝓤) (κ : Lft) (q : Share) 
     abbrev pub Held : Fml
     Held = (ShrSlice (named 0) κ u32).own_val s (v ∷ [])
 
-    abbrev pub to-new : (New 𝓛 mem run).Ghost
-    to-new = (((κ, tt), (q, tt), tt, (s, (n, tt)), passed s n), tt)
+    abbrev pub to_new : (New 𝓛 mem run).Ghost
+    to_new = (((κ, tt), (q, tt), tt, (s, (n, tt)), passed s n), tt)
 
-    pub goes-new : ent 𝓤 (⋆ 𝓛 ((‵ (flft κ q) ⊛ ‵ ftrue) ∷ ‵ (owns (ShrSlice (named 0) κ u32 ∷ usize ∷ usize ∷ []) (s, (f, (n, tt))) (passed3 s f n)) ∷ [])) (sep 𝓤 ((New 𝓛 mem run).pre to-new) (sem 𝓛 Held))
-    goes-new =
+    pub goes_new : ent 𝓤 (⋆ 𝓛 ((‵ (flft κ q) ⊛ ‵ ftrue) ∷ ‵ (owns (ShrSlice (named 0) κ u32 ∷ usize ∷ usize ∷ []) (s, (f, (n, tt))) (passed3 s f n)) ∷ [])) (sep 𝓤 ((New 𝓛 mem run).pre to_new) (sem 𝓛 Held))
+    goes_new =
         qed 𝓛 ((‵ (flft κ q) ⊛ ‵ ftrue) ∷ ‵ (owns (ShrSlice (named 0) κ u32 ∷ usize ∷ usize ∷ []) (s, (f, (n, tt))) (passed3 s f n)) ∷ []) ∵
         move ! (1 ∷ []) $ fsplit ! $ move ! (1 ∷ []) $ fsplit ! $ drop ! $ move ! (1 ∷ []) $ use1 𝓛 (‵ Held ⊛ ‵ Held) ((shr_slice_copy 𝓛 (named 0) κ u32).twice s (v ∷ [])) $ split ! $
-        move ! (0 ∷ 2 ∷ []) $ fjoin ! $ move ! (2 ∷ 0 ∷ []) $ use2 𝓛 (raw ((New 𝓛 mem run).pre to-new)) (qed 𝓛 ((‵ (flft κ q) ⊛ ‵ ftrue) ∷ ‵ (owns (ShrSlice (named 0) κ u32 ∷ usize ∷ []) (s, (n, tt)) (passed s n)) ∷ []) ∵ join ! $ frame ! $ done !) $ frame ! $ done !
+        move ! (0 ∷ 2 ∷ []) $ fjoin ! $ move ! (2 ∷ 0 ∷ []) $ use2 𝓛 (raw ((New 𝓛 mem run).pre to_new)) (qed 𝓛 ((‵ (flft κ q) ⊛ ‵ ftrue) ∷ ‵ (owns (ShrSlice (named 0) κ u32 ∷ usize ∷ []) (s, (n, tt)) (passed s n)) ∷ []) ∵ join ! $ frame ! $ done !) $ frame ! $ done !
 
     abbrev pub IsNew : Chain → Type 0
     IsNew r = (r.words ≡ s) × (r.link ≡ n)
 
-    pub new-said : (r : Chain) → ent 𝓤 (ensured 𝓛 new.ended (new.clauses 𝓛 mem run) (κ, tt) (s, (n, tt)) tt r) (fact 𝓤 (IsNew r))
-    new-said r = ex_e 𝓤 _ (λ ws. snd∗ 𝓤 (sem 𝓛 (lasts new.ended (κ, tt) (s, (n, tt)) ws)) (fact 𝓤 (IsNew r)))
+    pub new_said : (r : Chain) → ent 𝓤 (ensured 𝓛 new.ended (new.clauses 𝓛 mem run) (κ, tt) (s, (n, tt)) tt r) (fact 𝓤 (IsNew r))
+    new_said r = ex_e 𝓤 _ (λ ws. snd∗ 𝓤 (sem 𝓛 (lasts new.ended (κ, tt) (s, (n, tt)) ws)) (fact 𝓤 (IsNew r)))
 
 -- what is asked of the slice and the numbers is asked of the struct made of them
 pub same : {s : Bor (List ℕ)} {f n : ℕ} (r : Chain) → r.words ≡ s → r.link ≡ n → LinkIn s.now f n → LinkIn r.words.now f r.link

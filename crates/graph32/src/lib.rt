@@ -1,10 +1,10 @@
 // Written by tools/widen from crates/graph/src/lib.rt: edit that one.
 // The graph as lent words (document 01, "The graph as lent words"): the kind table, the header, the records and the reader of chains. Words are read by `at` alone, so that no other function knows how wide one is.
 ghost use Rattle.std.specs.Prelude.{◌≡◌, ◌+◌, ◌<◌, ◌≤◌, length, get_or};
-ghost use Rattle.theory.specs.Words.{nodeAt, producerAt, chain};
+ghost use Rattle.theory.specs.Words.{node_at, producer_at, chain};
 ghost use Rattle.theory.specs.Links.{MeetsOnce};
 ghost use Rattle.theory.specs.Accepted.{Accepted, edition2, size_of};
-ghost use Rattle.graph.specs.Layout.{NodeIn, ProducerIn, LinksFrom, LinkIn, valueIn, nextIn};
+ghost use Rattle.graph.specs.Layout.{NodeIn, ProducerIn, LinksFrom, LinkIn, value_in, next_in};
 
 // The word at i.
 pub fn at(words: &[u32], i: usize) -> usize
@@ -46,21 +46,21 @@ pub fn links(graph: &[u32]) -> usize
 // A node's record.
 pub fn kind(graph: &[u32], n: usize) -> usize
     requires { NodeIn graph.now n }
-    ensures { result ≡ get_or graph.now (nodeAt n) 0 }
+    ensures { result ≡ get_or graph.now (node_at n) 0 }
 {
     at(graph, 5 + 3 * n)
 }
 
 pub fn operand(graph: &[u32], n: usize) -> usize
     requires { NodeIn graph.now n }
-    ensures { result ≡ get_or graph.now (nodeAt n + 1) 0 }
+    ensures { result ≡ get_or graph.now (node_at n + 1) 0 }
 {
     at(graph, 5 + 3 * n + 1)
 }
 
 pub fn first_leaf(graph: &[u32], n: usize) -> usize
     requires { NodeIn graph.now n }
-    ensures { result ≡ get_or graph.now (nodeAt n + 2) 0 }
+    ensures { result ≡ get_or graph.now (node_at n + 2) 0 }
 {
     at(graph, 5 + 3 * n + 2)
 }
@@ -68,21 +68,21 @@ pub fn first_leaf(graph: &[u32], n: usize) -> usize
 // A producer's record: body + 1, where 0 marks a fact, and the first head link.
 fn producer_at(graph: &[u32], p: usize) -> usize
     requires { ProducerIn graph.now p }
-    ensures { result ≡ producerAt graph.now p }
+    ensures { result ≡ producer_at graph.now p }
 {
     5 + 3 * at(graph, 2) + 2 * p
 }
 
 pub fn body(graph: &[u32], p: usize) -> usize
     requires { ProducerIn graph.now p }
-    ensures { result ≡ get_or graph.now (producerAt graph.now p) 0 }
+    ensures { result ≡ get_or graph.now (producer_at graph.now p) 0 }
 {
     at(graph, producer_at(graph, p))
 }
 
 pub fn first_head(graph: &[u32], p: usize) -> usize
     requires { ProducerIn graph.now p }
-    ensures { result ≡ get_or graph.now (producerAt graph.now p + 1) 0 }
+    ensures { result ≡ get_or graph.now (producer_at graph.now p + 1) 0 }
 {
     at(graph, producer_at(graph, p) + 1)
 }
@@ -98,14 +98,14 @@ pub fn links_from(graph: &[u32]) -> usize
 // A link's record, by its number from 1 and where the records begin: its value and the next link.
 fn value_at(graph: &[u32], from: usize, l: usize) -> usize
     requires { LinkIn graph.now from l }
-    ensures { result ≡ valueIn graph.now from l }
+    ensures { result ≡ value_in graph.now from l }
 {
     at(graph, from + 2 * l - 2)
 }
 
 fn next_at(graph: &[u32], from: usize, l: usize) -> usize
     requires { LinkIn graph.now from l }
-    ensures { result ≡ nextIn graph.now from l }
+    ensures { result ≡ next_in graph.now from l }
 {
     at(graph, from + 2 * l - 1)
 }
@@ -132,14 +132,14 @@ pub fn chain_link<'a>(c: Chain<'a>) -> usize
 
 pub fn chain_value<'a>(c: Chain<'a>, from: usize) -> usize
     requires { LinkIn c.words.now from c.link }
-    ensures { result ≡ valueIn c.entry.words.now from c.entry.link }
+    ensures { result ≡ value_in c.entry.words.now from c.entry.link }
 {
     value_at(c.words, from, c.link)
 }
 
 pub fn chain_next<'a>(c: Chain<'a>, from: usize) -> Chain<'a>
     requires { LinkIn c.words.now from c.link }
-    ensures { (result.words ≡ c.entry.words) × (result.link ≡ nextIn c.entry.words.now from c.entry.link) }
+    ensures { (result.words ≡ c.entry.words) × (result.link ≡ next_in c.entry.words.now from c.entry.link) }
 {
     let next = next_at(c.words, from, c.link);
     Chain {
@@ -151,14 +151,14 @@ pub fn chain_next<'a>(c: Chain<'a>, from: usize) -> Chain<'a>
 // What every loop over a chain calls, on the graph's words and where the links begin.
 pub fn value(graph: &[u32], from: usize, l: usize) -> usize
     requires { LinkIn graph.now from l }
-    ensures { result ≡ valueIn graph.now from l }
+    ensures { result ≡ value_in graph.now from l }
 {
     chain_value(chain_of(graph, l), from)
 }
 
 pub fn next(graph: &[u32], from: usize, l: usize) -> usize
     requires { LinkIn graph.now from l }
-    ensures { result ≡ nextIn graph.now from l }
+    ensures { result ≡ next_in graph.now from l }
 {
     chain_link(chain_next(chain_of(graph, l), from))
 }

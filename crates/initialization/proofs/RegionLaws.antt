@@ -7,19 +7,19 @@ use lib.ListN.{get_or, set, drop, length-set}
 use lib.Seq.{get_or-drop, take-set-le, drop-set-lt}
 use Rattle.theory.specs.Sets.{Set, Mem}
 use Rattle.theory.specs.Prefix.{upto}
-use Rattle.theory.proofs.PrefixLaws.{upto_turn, upto-mem}
+use Rattle.theory.proofs.PrefixLaws.{upto_turn, upto_mem}
 use Rattle.area.specs.declared.Bases.{Bases}
 use Rattle.area.specs.Layout.{Laid}
-use Rattle.area.proofs.PartLaws.{behind_more, behind-at}
-use Rattle.initialization.specs.Regions.{coneNodes, factRows, Flagged, Prepared, Outside}
+use Rattle.area.proofs.PartLaws.{behind_more, behind_at}
+use Rattle.initialization.specs.Regions.{cone_nodes, fact_rows, Flagged, Prepared, Outside}
 
 -- ---- words outside
 
-pub outside-none : {from to : ℕ} {w : List ℕ} → Outside from to w w
-outside-none = record { size = refl; before = refl; after = refl }
+pub outside_none : {from to : ℕ} {w : List ℕ} → Outside from to w w
+outside_none = record { size = refl; before = refl; after = refl }
 
-pub outside-then : {from to : ℕ} {w₀ w₁ w₂ : List ℕ} → Outside from to w₀ w₁ → Outside from to w₁ w₂ → Outside from to w₀ w₂
-outside-then p q = record { size = q.size ∙ p.size; before = q.before ∙ p.before; after = q.after ∙ p.after }
+pub outside_then : {from to : ℕ} {w₀ w₁ w₂ : List ℕ} → Outside from to w₀ w₁ → Outside from to w₁ w₂ → Outside from to w₀ w₂
+outside_then p q = record { size = q.size ∙ p.size; before = q.before ∙ p.before; after = q.after ∙ p.after }
 
 pub outside_set : (from to : ℕ) (w : List ℕ) (i x : ℕ) → from ≤ i → i < to → Outside from to w (set w i x)
 outside_set from to w i x h k = record { size = length-set w i x; before = take-set-le from w i x h; after = drop-set-lt to w i x k }
@@ -27,31 +27,31 @@ outside_set from to w i x h k = record { size = length-set w i x; before = take-
 -- entry i - 1 of a list in words that are the same: the last of its first i
 module _ (base m : ℕ) (w₀ w : List ℕ) (e : drop m w ≡ drop m w₀) (h : m ≤ base) {i x : ℕ} (p : 0 < i) (ex : x ≡ get_or w (base + (i - 1)) 0) where
   entry : x ≡ get_or (drop base w₀) (i - 1) 0
-  entry = ex ∙ behind-at m w₀ w e (base + (i - 1)) (omega arith) ∙ sym (get_or-drop base w₀ (i - 1) 0)
+  entry = ex ∙ behind_at m w₀ w e (base + (i - 1)) (omega arith) ∙ sym (get_or-drop base w₀ (i - 1) 0)
 
-  pub listed-turn : upto i (drop base w₀) ≡ x ∷ upto (i - 1) (drop base w₀)
-  listed-turn = rw entry (upto_turn i (drop base w₀) p)
+  pub listed_turn : upto i (drop base w₀) ≡ x ∷ upto (i - 1) (drop base w₀)
+  listed_turn = rw entry (upto_turn i (drop base w₀) p)
 
-  pub listed-mem : (n : ℕ) → i ≤ n → Mem x (upto n (drop base w₀))
-  listed-mem n l = rw entry (upto-mem n (i - 1) (drop base w₀) (omega arith))
+  pub listed_mem : (n : ℕ) → i ≤ n → Mem x (upto n (drop base w₀))
+  listed_mem n l = rw entry (upto_mem n (i - 1) (drop base w₀) (omega arith))
 
 -- ---- what the lists behind the queue say stays with them
 
 module _ {b : Bases} (laid : Laid b) (w w' : List ℕ) (e : drop b.body_nodes w' ≡ drop b.body_nodes w) where
-  pub flagged-kept : {s : Set} → Flagged b w s → Flagged b w' s
-  flagged-kept f = record { low = f.low; flag = λ a l. behind-at b.body_nodes w w' e (b.cyclic_atoms + a) (omega arith) ∙ f.flag a l }
+  pub flagged_kept : {s : Set} → Flagged b w s → Flagged b w' s
+  flagged_kept f = record { low = f.low; flag = λ a l. behind_at b.body_nodes w w' e (b.cyclic_atoms + a) (omega arith) ∙ f.flag a l }
 
-  pub cone-same : (nodes : ℕ) → coneNodes b w' nodes ≡ coneNodes b w nodes
-  cone-same nodes = ap (upto nodes) e
+  pub cone_same : (nodes : ℕ) → cone_nodes b w' nodes ≡ cone_nodes b w nodes
+  cone_same nodes = ap (upto nodes) e
 
-  facts-same : (facts : ℕ) → factRows b w' facts ≡ factRows b w facts
-  facts-same facts = ap (upto facts) (behind_more b.body_nodes w w' e b.fact_rows (omega arith))
+  facts_same : (facts : ℕ) → fact_rows b w' facts ≡ fact_rows b w facts
+  facts_same facts = ap (upto facts) (behind_more b.body_nodes w w' e b.fact_rows (omega arith))
 
-  pub prepared-kept : {ws : List ℕ} {nodes facts : ℕ} → Prepared ws b w nodes facts → Prepared ws b w' nodes facts
-  prepared-kept {nodes = nodes} {facts = facts} p = record {
-    flagged = flagged-kept p.flagged;
-    nodes-few = p.nodes-few;
-    cone = rw (cone-same nodes) p.cone;
-    facts-few = p.facts-few;
-    stated = rw (facts-same facts) p.stated;
+  pub prepared_kept : {ws : List ℕ} {nodes facts : ℕ} → Prepared ws b w nodes facts → Prepared ws b w' nodes facts
+  prepared_kept {nodes = nodes} {facts = facts} p = record {
+    flagged = flagged_kept p.flagged;
+    nodes_few = p.nodes_few;
+    cone = rw (cone_same nodes) p.cone;
+    facts_few = p.facts_few;
+    stated = rw (facts_same facts) p.stated;
   }

@@ -3,32 +3,32 @@ use Rattle.std.specs.Prelude.{◌≡◌, List, [], ℕ, ◌+◌, ◌≤◌, ◌<
 use Rattle.theory.specs.Sets.{Set, everyone}
 use Rattle.theory.specs.Edges.{vertices, preds}
 use Rattle.theory.specs.Closure.{Mode, dead, free, single, every}
-use Rattle.theory.specs.Founded.{cyclicCone}
-use Rattle.theory.specs.Words.{theoryOf}
-use Rattle.theory.specs.Pass.{nodeMode, passMode}
-use Rattle.theory.specs.Starting.{firstCount, Starting}
+use Rattle.theory.specs.Founded.{cyclic_cone}
+use Rattle.theory.specs.Words.{theory_of}
+use Rattle.theory.specs.Pass.{node_mode, pass_mode}
+use Rattle.theory.specs.Starting.{first_count, Starting}
 use Rattle.area.specs.declared.Bases.{Bases}
 use Rattle.area.specs.Layout.{Laid}
 use Rattle.initialization.specs.declared.Initial.{Initial}
 use Rattle.initialization.specs.declared.Initial.TheVariants.{Inactive, Awaiting, True}
-use Rattle.area.specs.Views.{countAt, queued}
+use Rattle.area.specs.Views.{count_at, queued}
 use Rattle.initialization.specs.Regions.{Flagged, Outside}
 
 -- the start state of a vertex to which n entries lead
-unfoldable pub initialOf : Mode → ℕ → Initial
-initialOf dead n = Inactive
-initialOf free n = True
-initialOf single n = Awaiting 1
-initialOf every n = Awaiting n
+unfoldable pub initial_of : Mode → ℕ → Initial
+initial_of dead n = Inactive
+initial_of free n = True
+initial_of single n = Awaiting 1
+initial_of every n = Awaiting n
 
 -- that of node n
-abbrev pub initialAt : (ws : List ℕ) (never atomNever : Set) → ℕ → Initial
-initialAt ws never atomNever n = initialOf (nodeMode (theoryOf ws) (cyclicCone (theoryOf ws)) never atomNever n) (length ((theoryOf ws).leaves n))
+abbrev pub initial_at : (ws : List ℕ) (never atom_never : Set) → ℕ → Initial
+initial_at ws never atom_never n = initial_of (node_mode (theory_of ws) (cyclic_cone (theory_of ws)) never atom_never n) (length ((theory_of ws).leaves n))
 
 -- the counts below v are filled, whatever set is flagged
 pub record Filled (b : Bases) (cut : Set) (w w' : List ℕ) (v : ℕ) : Type 0 where
   pub outside : Outside b.dependencies b.queue w w'
-  pub counts : (s : Set) → Flagged b w s → (u : ℕ) → u < v → countAt b w' u ≡ firstCount s cut u
+  pub counts : (s : Set) → Flagged b w s → (u : ℕ) → u < v → count_at b w' u ≡ first_count s cut u
 
 -- what the walk over the facts goes by: the vertices and what each waits for, the nodes still to be started, and the words behind the queue
 pub record Context : Type 0 where
@@ -44,18 +44,18 @@ pub record At (b : Bases) (c : Context) (w : List ℕ) (t : ℕ) (heads : List �
   pub bound : c.bound ≡ b.atoms + b.nodes
   pub long : b.end ≤ length w
   pub kept : drop b.body_nodes w ≡ c.behind
-  pub starting : Starting c.bound c.mode c.pred heads c.nodes (queued b w t) (countAt b w)
+  pub starting : Starting c.bound c.mode c.pred heads c.nodes (queued b w t) (count_at b w)
 
 -- the context of a graph's pass
-abbrev pub passContext : (ws : List ℕ) (never atomNever : Set) (nodes behind : List ℕ) → Context
-passContext ws never atomNever nodes behind = record {
-  bound = vertices (theoryOf ws);
-  mode = passMode (theoryOf ws) (cyclicCone (theoryOf ws)) never atomNever;
-  pred = preds (theoryOf ws) everyone;
+abbrev pub pass_context : (ws : List ℕ) (never atom_never : Set) (nodes behind : List ℕ) → Context
+pass_context ws never atom_never nodes behind = record {
+  bound = vertices (theory_of ws);
+  mode = pass_mode (theory_of ws) (cyclic_cone (theory_of ws)) never atom_never;
+  pred = preds (theory_of ws) everyone;
   nodes = nodes;
   behind = behind;
 }
 
 -- t vertices are found, every head of a fact is met, and these nodes are still to be started
-pub record AtNodes (ws : List ℕ) (never atomNever : Set) (b : Bases) (behind w : List ℕ) (t : ℕ) (nodes : List ℕ) : Type 0 where
-  pub at : At b (passContext ws never atomNever nodes behind) w t []
+pub record AtNodes (ws : List ℕ) (never atom_never : Set) (b : Bases) (behind w : List ℕ) (t : ℕ) (nodes : List ℕ) : Type 0 where
+  pub at : At b (pass_context ws never atom_never nodes behind) w t []

@@ -3,17 +3,17 @@
 ghost use Rattle.std.specs.Prelude.{◌≡◌, false, [], ◌∷◌, ℕ, ◌+◌, ◌<◌, ◌≤◌, length, set};
 ghost use Rattle.theory.specs.Sets.{Set, Is};
 ghost use Rattle.theory.specs.Theory.{Atom};
-ghost use Rattle.theory.specs.Founded.{cyclic, cyclicCone};
-ghost use Rattle.theory.specs.Words.{bit_at, theoryOf};
+ghost use Rattle.theory.specs.Founded.{cyclic, cyclic_cone};
+ghost use Rattle.theory.specs.Words.{bit_at, theory_of};
 ghost use Rattle.theory.specs.Rows.{flat_map};
 ghost use Rattle.theory.specs.Accepted.{Accepted, edition1};
 ghost use Rattle.theory.specs.Drive.{Follows, Drives};
-ghost use Rattle.theory.specs.Pass.{kindMode};
-ghost use Rattle.theory.specs.Starting.{firstCount};
+ghost use Rattle.theory.specs.Pass.{kind_mode};
+ghost use Rattle.theory.specs.Starting.{first_count};
 ghost use Rattle.area.specs.Layout.{Laid, Based};
-ghost use Rattle.area.specs.Views.{asVertices};
-ghost use Rattle.initialization.specs.Regions.{coneNodes, factRows, Flagged, ConeListed, FactsListed, Prepared, Begun};
-ghost use Rattle.initialization.specs.Start.{initialOf, initialAt, Filled, At, AtNodes};
+ghost use Rattle.area.specs.Views.{as_vertices};
+ghost use Rattle.initialization.specs.Regions.{cone_nodes, fact_rows, Flagged, ConeListed, FactsListed, Prepared, Begun};
+ghost use Rattle.initialization.specs.Start.{initial_of, initial_at, Filled, At, AtNodes};
 
 use area::Bases;
 
@@ -28,7 +28,7 @@ pub enum Initial {
 // What vertex v waits for before the facts and the nodes are looked at.
 fn first_count(atom_never: &[u64], work: &[u16], b: Bases, v: usize) -> usize
     requires { Laid b × (b.end ≤ length work.now) }
-    ensures { ((s : Set) → Flagged b work.now s → result ≡ firstCount s (bit_at atom_never.now) v) × (result ≤ 1) }
+    ensures { ((s : Set) → Flagged b work.now s → result ≡ first_count s (bit_at atom_never.now) v) × (result ≤ 1) }
 {
     if b.atoms <= v {
         return 0;
@@ -77,9 +77,9 @@ fn activate_atom(work: &mut [u16], b: Bases, a: usize, tail: usize) -> usize
 
 // The heads of a fact.
 fn activate_heads(graph: &[u16], work: &mut [u16], b: Bases, p: usize, tail: usize) -> usize
-    requires accepted { Accepted edition1 graph.now × Based graph.now (length work.old) b × (p < (theoryOf graph.now).producers) }
-    requires follows { Follows (At b) work.old tail ((theoryOf graph.now).heads p) }
-    ensures { Drives (At b) b.dependencies work.old tail ((theoryOf graph.now).heads p) work.new result [] }
+    requires accepted { Accepted edition1 graph.now × Based graph.now (length work.old) b × (p < (theory_of graph.now).producers) }
+    requires follows { Follows (At b) work.old tail ((theory_of graph.now).heads p) }
+    ensures { Drives (At b) b.dependencies work.old tail ((theory_of graph.now).heads p) work.new result [] }
 {
     let from = graph::links_from(graph);
     let mut t = tail;
@@ -94,9 +94,9 @@ fn activate_heads(graph: &[u16], work: &mut [u16], b: Bases, p: usize, tail: usi
 
 // The facts that have a cyclic head.
 fn activate_facts(graph: &[u16], work: &mut [u16], b: Bases, facts: usize) -> usize
-    requires accepted { Accepted edition1 graph.now × Based graph.now (length work.old) b × (facts ≤ b.producers) × FactsListed graph.now (factRows b work.old facts) }
-    requires follows { Follows (At b) work.old 0 (flat_map (theoryOf graph.now).heads (factRows b work.old facts)) }
-    ensures { Drives (At b) b.dependencies work.old 0 (flat_map (theoryOf graph.now).heads (factRows b work.old facts)) work.new result [] }
+    requires accepted { Accepted edition1 graph.now × Based graph.now (length work.old) b × (facts ≤ b.producers) × FactsListed graph.now (fact_rows b work.old facts) }
+    requires follows { Follows (At b) work.old 0 (flat_map (theory_of graph.now).heads (fact_rows b work.old facts)) }
+    ensures { Drives (At b) b.dependencies work.old 0 (flat_map (theory_of graph.now).heads (fact_rows b work.old facts)) work.new result [] }
 {
     let mut t: usize = 0;
     let mut i = facts;
@@ -109,7 +109,7 @@ fn activate_facts(graph: &[u16], work: &mut [u16], b: Bases, facts: usize) -> us
 
 // An uncut Atom of an atom that is not cyclic: true unless its atom is cut.
 fn boundary(atom_never: &[u64], a: usize) -> Initial
-    ensures { (n : ℕ) → result ≡ initialOf (kindMode Atom false (bit_at atom_never.now a)) n }
+    ensures { (n : ℕ) → result ≡ initial_of (kind_mode Atom false (bit_at atom_never.now a)) n }
 {
     if mask::bit(atom_never, a) {
         return Initial::Inactive;
@@ -120,7 +120,7 @@ fn boundary(atom_never: &[u64], a: usize) -> Initial
 // An uncut Atom: that of a cyclic atom waits for it.
 fn read_atom(atom_never: &[u64], work: &[u16], b: Bases, a: usize) -> Initial
     requires { Laid b × (b.end ≤ length work.now) × (a < b.atoms) }
-    ensures { (s : Set) (n : ℕ) → Flagged b work.now s → result ≡ initialOf (kindMode Atom (s a) (bit_at atom_never.now a)) n }
+    ensures { (s : Set) (n : ℕ) → Flagged b work.now s → result ≡ initial_of (kind_mode Atom (s a) (bit_at atom_never.now a)) n }
 {
     if graph::at(work, b.cyclic_atoms + a) == 0 {
         return boundary(atom_never, a);
@@ -137,9 +137,9 @@ fn read(
     b: Bases,
     n: usize,
 ) -> Initial
-    requires accepted { Accepted edition1 graph.now × Based graph.now (length work.now) b × Flagged b work.now (cyclic (theoryOf graph.now)) }
-    requires is { Is (cyclicCone (theoryOf graph.now) n) }
-    ensures { result ≡ initialAt graph.now (bit_at never.now) (bit_at atom_never.now) n }
+    requires accepted { Accepted edition1 graph.now × Based graph.now (length work.now) b × Flagged b work.now (cyclic (theory_of graph.now)) }
+    requires is { Is (cyclic_cone (theory_of graph.now) n) }
+    ensures { result ≡ initial_at graph.now (bit_at never.now) (bit_at atom_never.now) n }
 {
     if mask::bit(never, n) {
         return Initial::Inactive;
@@ -170,8 +170,8 @@ fn start_node(
     n: usize,
     tail: usize,
 ) -> usize
-    requires accepted { Accepted edition1 graph.now × Based graph.now (length work.old) b × Flagged b work.old (cyclic (theoryOf graph.now)) }
-    requires is { Is (cyclicCone (theoryOf graph.now) n) }
+    requires accepted { Accepted edition1 graph.now × Based graph.now (length work.old) b × Flagged b work.old (cyclic (theory_of graph.now)) }
+    requires is { Is (cyclic_cone (theory_of graph.now) n) }
     requires follows { Follows (AtNodes graph.now (bit_at never.now) (bit_at atom_never.now) b) work.old tail ((b.atoms + n) ∷ []) }
     ensures { Drives (AtNodes graph.now (bit_at never.now) (bit_at atom_never.now) b) b.dependencies work.old tail ((b.atoms + n) ∷ []) work.new result [] }
 {
@@ -199,10 +199,10 @@ fn start_nodes(
     nodes: usize,
     tail: usize,
 ) -> usize
-    requires accepted { Accepted edition1 graph.now × Based graph.now (length work.old) b × Flagged b work.old (cyclic (theoryOf graph.now)) }
-    requires nodes_le_nodes { (nodes ≤ b.nodes) × ConeListed graph.now (coneNodes b work.old nodes) }
-    requires follows { Follows (AtNodes graph.now (bit_at never.now) (bit_at atom_never.now) b) work.old tail (asVertices b (coneNodes b work.old nodes)) }
-    ensures { Drives (AtNodes graph.now (bit_at never.now) (bit_at atom_never.now) b) b.dependencies work.old tail (asVertices b (coneNodes b work.old nodes)) work.new result [] }
+    requires accepted { Accepted edition1 graph.now × Based graph.now (length work.old) b × Flagged b work.old (cyclic (theory_of graph.now)) }
+    requires nodes_le_nodes { (nodes ≤ b.nodes) × ConeListed graph.now (cone_nodes b work.old nodes) }
+    requires follows { Follows (AtNodes graph.now (bit_at never.now) (bit_at atom_never.now) b) work.old tail (as_vertices b (cone_nodes b work.old nodes)) }
+    ensures { Drives (AtNodes graph.now (bit_at never.now) (bit_at atom_never.now) b) b.dependencies work.old tail (as_vertices b (cone_nodes b work.old nodes)) work.new result [] }
 {
     let mut t = tail;
     let mut i = nodes;

@@ -2,9 +2,9 @@
 use Rattle.std.specs.Prelude.{◌≡◌, List, [], ◌∷◌, ◌++◌, ℕ, zero, suc, ◌+◌, ◌*◌, ◌/◌, ◌≤◌, length, get_or, take}
 
 -- the number in the k bytes from `at` on
-unfoldable pub littleEndian : List ℕ → ℕ → ℕ → ℕ
-littleEndian bytes at zero = 0
-littleEndian bytes at (suc k) = get_or bytes at 0 + 256 * littleEndian bytes (suc at) k
+unfoldable pub little_endian : List ℕ → ℕ → ℕ → ℕ
+little_endian bytes at zero = 0
+little_endian bytes at (suc k) = get_or bytes at 0 + 256 * little_endian bytes (suc at) k
 
 -- g 0, .. g (n - 1)
 unfoldable pub tabulate : (ℕ → ℕ) → ℕ → List ℕ
@@ -13,7 +13,7 @@ tabulate g (suc n) = tabulate g n ++ (g n ∷ [])
 
 -- word i of k bytes each
 abbrev pub word_at : ℕ → List ℕ → ℕ → ℕ
-word_at k bytes i = littleEndian bytes (k * i) k
+word_at k bytes i = little_endian bytes (k * i) k
 
 -- the words of k bytes each; what is left at the end is dropped
 abbrev pub words : ℕ → List ℕ → List ℕ

@@ -1,7 +1,7 @@
 // Standard input as words: how many of its bytes are the graph, and words from bytes, low byte first.
 ghost use Rattle.std.specs.Prelude.{◌≡◌, ◌+◌, ◌*◌, ◌/◌, ◌^◌, ◌<◌, ◌≤◌, min, length, get_or};
-ghost use Rattle.input.specs.Bytes.{littleEndian, words as Bytes·words, Decoded};
-ghost use Rattle.input.specs.Input.{graphSize};
+ghost use Rattle.input.specs.Bytes.{little_endian, words as Bytes·words, Decoded};
+ghost use Rattle.input.specs.Input.{graph_size};
 
 fn byte(bytes: &[u8], i: usize) -> u64
     requires { i < length bytes.now }
@@ -13,7 +13,7 @@ fn byte(bytes: &[u8], i: usize) -> u64
 // The number in the k bytes from `at` on, from the highest down.
 fn number(bytes: &[u8], at: usize, k: usize) -> u64
     requires { (at + k ≤ length bytes.now) × (k ≤ 8) }
-    ensures { (result ≡ littleEndian bytes.now at k) × (result < 2 ^ (8 * k)) }
+    ensures { (result ≡ little_endian bytes.now at k) × (result < 2 ^ (8 * k)) }
 {
     let mut i = k;
     let mut x: u64 = 0;
@@ -71,7 +71,7 @@ fn least(a: usize, b: usize) -> usize
 
 // How many bytes the graph has: as the header sizes it, or all there are, and no more than the largest graph.
 pub fn graph_bytes(input: &[u8]) -> usize
-    ensures { result ≡ min (length input.now) (min (graphSize input.now) 26634) }
+    ensures { result ≡ min (length input.now) (min (graph_size input.now) 26634) }
 {
     if input.len() < 10 {
         return input.len();

@@ -32,8 +32,8 @@ abbrev pub pack : ℕ → Set → List ℕ
 pack n s = mask_of (words_of n) (below n s)
 
 -- the mask with bit i set too
-abbrev pub withBit : ℕ → List ℕ → List ℕ
-withBit i m = mask_of (length m) (λ j. eqb j i || bit_at m j)
+abbrev pub with_bit : ℕ → List ℕ → List ℕ
+with_bit i m = mask_of (length m) (λ j. eqb j i || bit_at m j)
 
 -- the set that a list of flags stands for, a word each: 1 is a member
 abbrev pub flagged : List ℕ → Set

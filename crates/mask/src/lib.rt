@@ -1,7 +1,7 @@
 // Masks: a set of numbers in 64-bit words, bit i % 64 of word i / 64, lowest first, for i.
 ghost use Rattle.std.specs.Prelude.{◌≡◌, ◌+◌, ◌*◌, ◌<◌, ◌≤◌, min, length};
 ghost use Rattle.theory.specs.Words.{bit_at};
-ghost use Rattle.mask.specs.Mask.{words_of, bits, pack, withBit, flagged};
+ghost use Rattle.mask.specs.Mask.{words_of, bits, pack, with_bit, flagged};
 
 // The length of a mask over n numbers: ⌈n / 64⌉.
 pub fn words(n: usize) -> usize
@@ -24,7 +24,7 @@ pub fn bit(mask: &[u64], i: usize) -> bool
 // Sets bit i, which the mask has.
 pub fn set_bit(mask: &mut [u64], i: usize)
     requires { i < 64 * length mask.old }
-    ensures { mask.new ≡ withBit i mask.old }
+    ensures { mask.new ≡ with_bit i mask.old }
 {
     let w = i / 64;
     mask[w] = mask[w] | (1u64 << (i % 64));

@@ -1,7 +1,7 @@
 // The number and the place of each answer.
 ghost use Rattle.std.specs.Prelude.{◌≡◌, ◌<◌};
 ghost use Rattle.refusals.specs.Refusals.{answer_of};
-ghost use Rattle.founded.specs.Answers.{completedOf};
+ghost use Rattle.founded.specs.Answers.{completed_of};
 
 use founded::Completed;
 use refusals::Checked;
@@ -43,7 +43,7 @@ pub fn checked_place(c: Checked) -> usize
 }
 
 pub fn completed_number(c: Completed) -> usize
-    ensures { (result ≡ (completedOf c).number) × (result < 65536) }
+    ensures { (result ≡ (completed_of c).number) × (result < 65536) }
 {
     match c {
         Completed::Done => 0,
@@ -55,7 +55,7 @@ pub fn completed_number(c: Completed) -> usize
 }
 
 pub fn completed_place(c: Completed) -> usize
-    ensures { result ≡ (completedOf c).place }
+    ensures { result ≡ (completed_of c).place }
 {
     match c {
         Completed::Done => 0,

@@ -2,7 +2,7 @@
 ghost use Rattle.std.specs.Prelude.{length};
 ghost use Rattle.theory.specs.Words.{bit_at};
 ghost use Rattle.theory.specs.Accepted.{Accepted, edition1};
-ghost use Rattle.area.specs.Layout.{basesOf, Based};
+ghost use Rattle.area.specs.Layout.{bases_of, Based};
 ghost use Rattle.preparation.specs.Flags.{Marked, Listed};
 ghost use Rattle.preparation.specs.Stages.{Rowed, Onward, Marking, Staged, Passing};
 
@@ -55,8 +55,8 @@ fn mark_in(graph: &[u16], work: &mut [u16], b: Bases) -> Marks
 
 // The same, with the bases worked out here (`area::bases_of` says why).
 fn mark(graph: &[u16], work: &mut [u16]) -> Marks
-    requires { Accepted edition1 graph.now × Based graph.now (length work.old) (basesOf graph.now (length work.old)) }
-    ensures { Staged graph.now (basesOf graph.now (length work.old)) work.old work.new result }
+    requires { Accepted edition1 graph.now × Based graph.now (length work.old) (bases_of graph.now (length work.old)) }
+    ensures { Staged graph.now (bases_of graph.now (length work.old)) work.old work.new result }
 {
     let words = work.len();
     mark_in(graph, work, area::bases_of(graph, words))

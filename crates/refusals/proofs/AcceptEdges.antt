@@ -5,14 +5,14 @@
 use mathlib.Core.Path.{◌≡◌, refl}
 use mathlib.Core.List.{List, [], ◌∷◌}
 use Prim.Native.Nat.{ℕ}
-use Rattle.theory.specs.Sets.{any, sumBelow}
+use Rattle.theory.specs.Sets.{any, sum_below}
 use Rattle.theory.specs.Theory.{joins}
-use Rattle.theory.specs.Words.{kind_of, chainIn, chain, theoryOf}
-use Rattle.theory.specs.Links.{after, linkAfter, comesBack}
+use Rattle.theory.specs.Words.{kind_of, chain_in, chain, theory_of}
+use Rattle.theory.specs.Links.{after, link_after, comes_back}
 use Rattle.theory.specs.Accepted.{Edition, edition1}
-use Rattle.graph.specs.Kinds.{takesOperand}
-use Rattle.refusals.specs.Answer.{accept, refuse, refuseFirst, firstRefusal}
-use Rattle.refusals.specs.Refusals.{badEdition, badCounts, badSize, badOperand, badFirst, badRecord, badBody, badNext, badEntries, graphRows, graphAnswer}
+use Rattle.graph.specs.Kinds.{takes_operand}
+use Rattle.refusals.specs.Answer.{accept, refuse, refuse_first, first_refusal}
+use Rattle.refusals.specs.Refusals.{bad_edition, bad_counts, bad_size, bad_operand, bad_first, bad_record, bad_body, bad_next, bad_entries, graph_rows, graph_answer}
 
 -- False as node 0, an And as node 1, and link 1
 abbrev graph : ℕ → ℕ → List ℕ
@@ -30,10 +30,10 @@ pair k m body first = 1 ∷ 0 ∷ 2 ∷ 1 ∷ 1 ∷ k ∷ 0 ∷ 0 ∷ m ∷ 0 �
 abbrev bare : Edition
 bare = record { number = 1; counts = 2; links = 1; entries = 0; area = λ size entries. 0 }
 
-pub edges : (graphAnswer edition1 (graph 0 0) ≡ accept) × (graphAnswer edition1 (graph 1 0) ≡ refuse 7 1) × (graphAnswer edition1 (graph 0 2) ≡ refuse 6 1) × (graphAnswer edition1 (graph 0 1) ≡ refuse 14 1)
-    × (graphAnswer edition1 (chains 0 1 2 3 2) ≡ refuse 14 0) × (graphAnswer edition1 (chains 0 3 0 1 2) ≡ accept) × (graphAnswer edition1 (chains 0 1 2 1 4) ≡ refuse 6 3) × (graphAnswer edition1 (chains 0 0 2 3 1) ≡ accept)
-    × (graphAnswer edition1 (chains 1 0 1 0 0) ≡ refuse 14 1) × (graphAnswer edition1 (chains 1 2 1 2 0) ≡ refuse 14 1) × (graphAnswer edition1 (graph 1 1) ≡ refuse 14 1)
-    × (graphAnswer edition1 (pair 8 8 0 0) ≡ refuse 4 0) × (graphAnswer edition1 (pair 0 8 3 0) ≡ refuse 4 1) × (graphAnswer bare (pair 0 0 0 1) ≡ refuse 8 0)
-unfolding graphAnswer graphRows refuseFirst firstRefusal badEdition badCounts badSize badOperand badFirst badRecord badBody badNext badEntries
-    after linkAfter comesBack takesOperand joins kind_of chainIn chain theoryOf any sumBelow
+pub edges : (graph_answer edition1 (graph 0 0) ≡ accept) × (graph_answer edition1 (graph 1 0) ≡ refuse 7 1) × (graph_answer edition1 (graph 0 2) ≡ refuse 6 1) × (graph_answer edition1 (graph 0 1) ≡ refuse 14 1)
+    × (graph_answer edition1 (chains 0 1 2 3 2) ≡ refuse 14 0) × (graph_answer edition1 (chains 0 3 0 1 2) ≡ accept) × (graph_answer edition1 (chains 0 1 2 1 4) ≡ refuse 6 3) × (graph_answer edition1 (chains 0 0 2 3 1) ≡ accept)
+    × (graph_answer edition1 (chains 1 0 1 0 0) ≡ refuse 14 1) × (graph_answer edition1 (chains 1 2 1 2 0) ≡ refuse 14 1) × (graph_answer edition1 (graph 1 1) ≡ refuse 14 1)
+    × (graph_answer edition1 (pair 8 8 0 0) ≡ refuse 4 0) × (graph_answer edition1 (pair 0 8 3 0) ≡ refuse 4 1) × (graph_answer bare (pair 0 0 0 1) ≡ refuse 8 0)
+unfolding graph_answer graph_rows refuse_first first_refusal bad_edition bad_counts bad_size bad_operand bad_first bad_record bad_body bad_next bad_entries
+    after link_after comes_back takes_operand joins kind_of chain_in chain theory_of any sum_below
 edges = (refl, refl, refl, refl, refl, refl, refl, refl, refl, refl, refl, refl, refl, refl)

@@ -14,20 +14,20 @@ abbrev pub accept : Answer
 accept = refuse 0 0
 
 -- a row that gives its refusal exactly if the test holds, at place 0
-abbrev pub refuseIf : ℕ → Bool → Answer
-refuseIf number true = refuse number 0
-refuseIf number false = accept
+abbrev pub refuse_if : ℕ → Bool → Answer
+refuse_if number true = refuse number 0
+refuse_if number false = accept
 
 -- the first of two that is a refusal
-abbrev pub orNext : Answer → Answer → Answer
-orNext a b = cond (eqb a.number 0) b a
+abbrev pub or_next : Answer → Answer → Answer
+or_next a b = cond (eqb a.number 0) b a
 
 -- a row that gives its refusal at the first of `count` places from i on where the test holds
-unfoldable pub refuseFirst : ℕ → (ℕ → Bool) → ℕ → ℕ → Answer
-refuseFirst number bad i zero = accept
-refuseFirst number bad i (suc count) = cond (bad i) (refuse number i) (refuseFirst number bad (suc i) count)
+unfoldable pub refuse_first : ℕ → (ℕ → Bool) → ℕ → ℕ → Answer
+refuse_first number bad i zero = accept
+refuse_first number bad i (suc count) = cond (bad i) (refuse number i) (refuse_first number bad (suc i) count)
 
 -- the first of a table
-unfoldable pub firstRefusal : List Answer → Answer
-firstRefusal [] = accept
-firstRefusal (a ∷ rows) = orNext a (firstRefusal rows)
+unfoldable pub first_refusal : List Answer → Answer
+first_refusal [] = accept
+first_refusal (a ∷ rows) = or_next a (first_refusal rows)

@@ -4,9 +4,9 @@ pub mod edition;
 
 ghost use Rattle.std.specs.Prelude.{◌≡◌, ◌+◌, ◌≤◌, length, get_or};
 ghost use Rattle.theory.specs.Accepted.{edition1};
-ghost use Rattle.refusals.specs.Passed.{Sized, turns, turnsAt};
+ghost use Rattle.refusals.specs.Passed.{Sized, turns, turns_at};
 ghost use Rattle.refusals.specs.Search.{Clear, First};
-ghost use Rattle.refusals.specs.Refusals.{badEdition, badCounts, badSize, badOperand, badFirst, badRecord, badNode, badBody, badProducer, badNext, badLink};
+ghost use Rattle.refusals.specs.Refusals.{bad_edition, bad_counts, bad_size, bad_operand, bad_first, bad_record, bad_node, bad_body, bad_producer, bad_next, bad_link};
 
 use crate::edition::{COUNTS, LINKS, NUMBER};
 use graph::{
@@ -32,7 +32,7 @@ pub enum Checked {
 
 // Row 1.
 pub fn bad_edition(graph: &[u16]) -> bool
-    ensures { result ≡ badEdition edition1 graph.now }
+    ensures { result ≡ bad_edition edition1 graph.now }
 {
     if graph.len() < 5 {
         return true;
@@ -43,7 +43,7 @@ pub fn bad_edition(graph: &[u16]) -> bool
 // Row 2.
 pub fn bad_counts(graph: &[u16]) -> bool
     requires { 5 ≤ length graph.now }
-    ensures { result ≡ badCounts edition1 graph.now }
+    ensures { result ≡ bad_counts edition1 graph.now }
 {
     if COUNTS < atoms(graph) {
         return true;
@@ -60,7 +60,7 @@ pub fn bad_counts(graph: &[u16]) -> bool
 // Row 3.
 pub fn bad_size(graph: &[u16]) -> bool
     requires { 5 ≤ length graph.now }
-    ensures { result ≡ badSize graph.now }
+    ensures { result ≡ bad_size graph.now }
 {
     graph.len() != 5 + 3 * at(graph, 2) + 2 * at(graph, 3) + 2 * at(graph, 4)
 }
@@ -68,7 +68,7 @@ pub fn bad_size(graph: &[u16]) -> bool
 // Row 4: the kind table drives the tests of operand and first link.
 fn bad_operand(kind: usize, operand: usize, atoms: usize) -> bool
     requires { kind ≤ 7 }
-    ensures { result ≡ badOperand kind operand atoms }
+    ensures { result ≡ bad_operand kind operand atoms }
 {
     if takes_operand(kind) {
         return atoms <= operand;
@@ -78,7 +78,7 @@ fn bad_operand(kind: usize, operand: usize, atoms: usize) -> bool
 
 fn bad_first(kind: usize, first: usize, links: usize) -> bool
     requires { kind ≤ 7 }
-    ensures { result ≡ badFirst kind first links }
+    ensures { result ≡ bad_first kind first links }
 {
     if links < first {
         return true;
@@ -90,7 +90,7 @@ fn bad_first(kind: usize, first: usize, links: usize) -> bool
 }
 
 fn bad_record(kind: usize, operand: usize, first: usize, atoms: usize, links: usize) -> bool
-    ensures { result ≡ badRecord kind operand first atoms links }
+    ensures { result ≡ bad_record kind operand first atoms links }
 {
     if 7 < kind {
         return true;
@@ -104,7 +104,7 @@ fn bad_record(kind: usize, operand: usize, first: usize, atoms: usize, links: us
 // The first node whose record is wrong, or N.
 pub fn bad_node(graph: &[u16]) -> usize
     requires { Sized edition1 graph.now }
-    ensures { First (badNode graph.now) 0 (get_or graph.now 2 0) result }
+    ensures { First (bad_node graph.now) 0 (get_or graph.now 2 0) result }
 {
     let end = nodes(graph);
     let atoms = atoms(graph);
@@ -127,7 +127,7 @@ pub fn bad_node(graph: &[u16]) -> usize
 
 // Row 5: the first producer whose record is wrong, or P.
 fn bad_body(body: usize, first: usize, nodes: usize, links: usize) -> bool
-    ensures { result ≡ badBody body first nodes links }
+    ensures { result ≡ bad_body body first nodes links }
 {
     if nodes < body {
         return true;
@@ -137,7 +137,7 @@ fn bad_body(body: usize, first: usize, nodes: usize, links: usize) -> bool
 
 pub fn bad_producer(graph: &[u16]) -> usize
     requires { Sized edition1 graph.now }
-    ensures { First (badProducer graph.now) 0 (get_or graph.now 3 0) result }
+    ensures { First (bad_producer graph.now) 0 (get_or graph.now 3 0) result }
 {
     let end = producers(graph);
     let nodes = nodes(graph);
@@ -167,7 +167,7 @@ fn turns(next: usize, l: usize, links: usize) -> bool
 
 pub fn first_turn(graph: &[u16]) -> usize
     requires { Sized edition1 graph.now }
-    ensures { First (turnsAt graph.now) 1 (get_or graph.now 4 0 + 1) result }
+    ensures { First (turns_at graph.now) 1 (get_or graph.now 4 0 + 1) result }
 {
     let end = links(graph);
     let from = links_from(graph);
@@ -183,14 +183,14 @@ pub fn first_turn(graph: &[u16]) -> usize
 
 // Row 6: the first link whose next is wrong, or K + 1. Those before `start` lead upward.
 fn bad_next(next: usize, links: usize) -> bool
-    ensures { result ≡ badNext next links }
+    ensures { result ≡ bad_next next links }
 {
     links < next
 }
 
 pub fn bad_link(graph: &[u16], start: usize) -> usize
-    requires { Sized edition1 graph.now × (start ≤ get_or graph.now 4 0) × Clear (turnsAt graph.now) 1 start }
-    ensures { First (badLink graph.now) 1 (get_or graph.now 4 0 + 1) result }
+    requires { Sized edition1 graph.now × (start ≤ get_or graph.now 4 0) × Clear (turns_at graph.now) 1 start }
+    ensures { First (bad_link graph.now) 1 (get_or graph.now 4 0 + 1) result }
 {
     let end = links(graph);
     let from = links_from(graph);

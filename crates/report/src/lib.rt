@@ -1,19 +1,19 @@
 // The program's text: from standard input's bytes to the bytes that are written (document 01, "The program").
 ghost use Rattle.std.specs.Prelude.{◌≡◌, false, ◌≤◌, length, get_or};
-ghost use Rattle.theory.specs.Words.{theoryOf};
+ghost use Rattle.theory.specs.Words.{theory_of};
 ghost use Rattle.theory.specs.Accepted.{edition1};
-ghost use Rattle.theory.specs.Founded.{hasCycle};
+ghost use Rattle.theory.specs.Founded.{has_cycle};
 ghost use Rattle.refusals.specs.Answer.{accept};
-ghost use Rattle.refusals.specs.Refusals.{graphAnswer};
+ghost use Rattle.refusals.specs.Refusals.{graph_answer};
 ghost use Rattle.mask.specs.Mask.{words_of};
-ghost use Rattle.report.specs.Report.{badMasks, Split, Ready, Passed, ReportedOf, Reported};
+ghost use Rattle.report.specs.Report.{bad_masks, Split, Ready, Passed, ReportedOf, Reported};
 
 use cycles::Need;
 
 // The loop test on an accepted graph.
 fn loops(graph: &[u16], work: &mut [u16]) -> bool
-    requires { (graphAnswer edition1 graph.now ≡ accept) × (length work.old ≡ 32768) }
-    ensures { result ≡ hasCycle (theoryOf graph.now) }
+    requires { (graph_answer edition1 graph.now ≡ accept) × (length work.old ≡ 32768) }
+    ensures { result ≡ has_cycle (theory_of graph.now) }
 {
     match cycles::needed(graph, work) {
         Need::Yes => true,
@@ -56,7 +56,7 @@ fn report_words(graph: &[u16], never: &[u64], atom_never: &[u64], out: &mut [u8]
 }
 
 fn atom_bytes(graph: &[u16], masks: &[u8]) -> usize
-    requires { (graphAnswer edition1 graph.now ≡ accept) × (badMasks graph.now masks.now ≡ false) }
+    requires { (graph_answer edition1 graph.now ≡ accept) × (bad_masks graph.now masks.now ≡ false) }
     ensures { Split graph.now masks.now result }
 {
     8 * mask::words(graph::atoms(graph))
@@ -64,7 +64,7 @@ fn atom_bytes(graph: &[u16], masks: &[u8]) -> usize
 
 // The masks of an accepted graph: first the atom mask, and the rest is the node mask.
 fn report_masks(graph: &[u16], masks: &[u8], out: &mut [u8]) -> usize
-    requires { (graphAnswer edition1 graph.now ≡ accept) × (badMasks graph.now masks.now ≡ false) × (6144 ≤ length out.old) }
+    requires { (graph_answer edition1 graph.now ≡ accept) × (bad_masks graph.now masks.now ≡ false) × (6144 ≤ length out.old) }
     ensures { ReportedOf graph.now masks.now out.old out.new result }
 {
     let mut atom_never = [0u64; 16];
@@ -77,8 +77,8 @@ fn report_masks(graph: &[u16], masks: &[u8], out: &mut [u8]) -> usize
 
 // Row 10, of the bytes of both masks.
 fn bad_masks(graph: &[u16], masks: &[u8]) -> bool
-    requires { graphAnswer edition1 graph.now ≡ accept }
-    ensures { result ≡ badMasks graph.now masks.now }
+    requires { graph_answer edition1 graph.now ≡ accept }
+    ensures { result ≡ bad_masks graph.now masks.now }
 {
     masks.len() != 8 * mask::words(graph::atoms(graph)) + 8 * mask::words(graph::nodes(graph))
 }

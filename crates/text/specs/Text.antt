@@ -2,13 +2,13 @@
 use Rattle.std.specs.Prelude.{◌≡◌, Bool, cond, List, [], ◌∷◌, ◌++◌, ℕ, zero, suc, ◌+◌, ◌/◌, ◌%◌, ltb, length, take, drop}
 
 -- a number below 10 is its digit; any other, what stands for its tenth and then its last digit. The fuel is above the number.
-unfoldable pub digitsIn : ℕ → ℕ → List ℕ
-digitsIn zero n = []
-digitsIn (suc fuel) n = cond (ltb n 10) ((48 + n) ∷ []) (digitsIn fuel (n / 10) ++ ((48 + n % 10) ∷ []))
+unfoldable pub digits_in : ℕ → ℕ → List ℕ
+digits_in zero n = []
+digits_in (suc fuel) n = cond (ltb n 10) ((48 + n) ∷ []) (digits_in fuel (n / 10) ++ ((48 + n % 10) ∷ []))
 
 -- a number in decimal, without a leading zero
 unfoldable pub decimal : ℕ → List ℕ
-decimal n = digitsIn (suc n) n
+decimal n = digits_in (suc n) n
 
 -- numbers, one space before each
 unfoldable pub spaced : List ℕ → List ℕ
@@ -20,24 +20,24 @@ abbrev pub line : List ℕ → List ℕ → List ℕ
 line word numbers = (word ++ spaced numbers) ++ (10 ∷ [])
 
 -- refused, missing
-abbrev pub refusedWord : List ℕ
-refusedWord = 114 ∷ 101 ∷ 102 ∷ 117 ∷ 115 ∷ 101 ∷ 100 ∷ []
+abbrev pub refused_word : List ℕ
+refused_word = 114 ∷ 101 ∷ 102 ∷ 117 ∷ 115 ∷ 101 ∷ 100 ∷ []
 
-abbrev pub missingWord : List ℕ
-missingWord = 109 ∷ 105 ∷ 115 ∷ 115 ∷ 105 ∷ 110 ∷ 103 ∷ []
+abbrev pub missing_word : List ℕ
+missing_word = 109 ∷ 105 ∷ 115 ∷ 115 ∷ 105 ∷ 110 ∷ 103 ∷ []
 
 -- loops yes, loops no
-abbrev pub loopsLine : Bool → List ℕ
-loopsLine cycle =
+abbrev pub loops_line : Bool → List ℕ
+loops_line cycle =
     cond cycle (108 ∷ 111 ∷ 111 ∷ 112 ∷ 115 ∷ 32 ∷ 121 ∷ 101 ∷ 115 ∷ 10 ∷ []) (108 ∷ 111 ∷ 111 ∷ 112 ∷ 115 ∷ 32 ∷ 110 ∷ 111 ∷ 10 ∷ [])
 
 -- number and place
-abbrev pub refusedLine : ℕ → ℕ → List ℕ
-refusedLine number place = line refusedWord (number ∷ place ∷ [])
+abbrev pub refused_line : ℕ → ℕ → List ℕ
+refused_line number place = line refused_word (number ∷ place ∷ [])
 
 -- the count, and then the list itself
-abbrev pub missingLine : List ℕ → List ℕ
-missingLine atoms = line missingWord (length atoms ∷ atoms)
+abbrev pub missing_line : List ℕ → List ℕ
+missing_line atoms = line missing_word (length atoms ∷ atoms)
 
 -- a number, or none
 abbrev pub only : Bool → ℕ → List ℕ
@@ -46,5 +46,5 @@ only b n = cond b (n ∷ []) []
 -- what a function that appends leaves: the text stands at `at`, all before it and all behind it is as it was, and the next place is r
 pub record Appended (old : List ℕ) (at : ℕ) (text new : List ℕ) (r : ℕ) : Type 0 where
   pub end : r ≡ at + length text
-  pub text-there : take r new ≡ take at old ++ text
+  pub text_there : take r new ≡ take at old ++ text
   pub behind : drop r new ≡ drop r old

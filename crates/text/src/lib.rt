@@ -2,7 +2,7 @@
 ghost use Rattle.std.specs.Prelude.{◌≡◌, [], ◌∷◌, ◌++◌, ◌+◌, ◌*◌, ◌<◌, ◌≤◌, length};
 ghost use Rattle.theory.specs.Sets.{members};
 ghost use Rattle.theory.specs.Words.{bit_at};
-ghost use Rattle.text.specs.Text.{decimal, spaced, only, refusedLine, loopsLine, missingLine, Appended};
+ghost use Rattle.text.specs.Text.{decimal, spaced, only, refused_line, loops_line, missing_line, Appended};
 
 fn put(out: &mut [u8], at: usize, byte: u8) -> usize
     requires { at < length out.old }
@@ -48,7 +48,7 @@ fn put_spaced(out: &mut [u8], at: usize, n: usize) -> usize
 // `refused`, the number and the place.
 pub fn put_refusal(out: &mut [u8], number: usize, place: usize) -> usize
     requires { (number < 65536) × (place < 65536) × (20 ≤ length out.old) }
-    ensures { Appended out.old 0 (refusedLine number place) out.new result }
+    ensures { Appended out.old 0 (refused_line number place) out.new result }
 {
     let word = put_text(out, 0, b"refused");
     let first = put_spaced(out, word, number);
@@ -58,7 +58,7 @@ pub fn put_refusal(out: &mut [u8], number: usize, place: usize) -> usize
 
 fn put_loops(out: &mut [u8], cycle: bool) -> usize
     requires { 10 ≤ length out.old }
-    ensures { Appended out.old 0 (loopsLine cycle) out.new result }
+    ensures { Appended out.old 0 (loops_line cycle) out.new result }
 {
     if cycle {
         return put_text(out, 0, b"loops yes\n");
@@ -107,7 +107,7 @@ fn put_bits(out: &mut [u8], at: usize, mask: &[u64], n: usize) -> usize
 // `missing`, the count and the atoms.
 fn put_missing(out: &mut [u8], at: usize, mask: &[u64], atoms: usize) -> usize
     requires { (atoms ≤ 1024) × (at + 14 + 5 * atoms ≤ length out.old) }
-    ensures { Appended out.old at (missingLine (members atoms (bit_at mask.now))) out.new result }
+    ensures { Appended out.old at (missing_line (members atoms (bit_at mask.now))) out.new result }
 {
     let word = put_text(out, at, b"missing");
     let first = put_spaced(out, word, count(mask, atoms));
@@ -118,7 +118,7 @@ fn put_missing(out: &mut [u8], at: usize, mask: &[u64], atoms: usize) -> usize
 // Both lines.
 pub fn put_lines(out: &mut [u8], cycle: bool, mask: &[u64], atoms: usize) -> usize
     requires { (atoms ≤ 1024) × (5144 ≤ length out.old) }
-    ensures { Appended out.old 0 (loopsLine cycle ++ missingLine (members atoms (bit_at mask.now))) out.new result }
+    ensures { Appended out.old 0 (loops_line cycle ++ missing_line (members atoms (bit_at mask.now))) out.new result }
 {
     let at = put_loops(out, cycle);
     put_missing(out, at, mask, atoms)

@@ -13,45 +13,45 @@ use Rattle.theory.specs.Sets.{Mem}
 use Rattle.theory.specs.Counts.{Distinct}
 use Rattle.theory.specs.Walks.{Walk, edge, next}
 use Rattle.theory.specs.Components.{Star, here, on, Via, start, step, Good, Stacked, Descent, Same, Sweep, Collect}
-use Rattle.theory.proofs.WalkLaws.{walk-cat}
+use Rattle.theory.proofs.WalkLaws.{walk_cat}
 
 module _ (pred : ℕ → List ℕ) where
-  pub star-cat : {u v w : ℕ} → Star pred u v → Star pred v w → Star pred u w
-  star-cat {u} p (here e) = subst (λ (z : ℕ). Star pred u z) e p
-  star-cat p (on q m) = on (star-cat p q) m
+  pub star_cat : {u v w : ℕ} → Star pred u v → Star pred v w → Star pred u w
+  star_cat {u} p (here e) = subst (λ (z : ℕ). Star pred u z) e p
+  star_cat p (on q m) = on (star_cat p q) m
 
-  pub star-edge : {u v : ℕ} → Mem u (pred v) → Star pred u v
-  star-edge m = on (here refl) m
+  pub star_edge : {u v : ℕ} → Mem u (pred v) → Star pred u v
+  star_edge m = on (here refl) m
 
-  pub star-walk : {u w v : ℕ} → Star pred u w → Mem w (pred v) → Walk pred u v
-  star-walk (here e) m = edge (Memᴰ.cast e m)
-  star-walk (on p k) m = next (star-walk p k) m
+  pub star_walk : {u w v : ℕ} → Star pred u w → Mem w (pred v) → Walk pred u v
+  star_walk (here e) m = edge (Memᴰ.cast e m)
+  star_walk (on p k) m = next (star_walk p k) m
 
-  pub edge-star : {u v w : ℕ} → Mem u (pred v) → Star pred v w → Walk pred u w
-  edge-star {u} m (here e) = edge (subst (λ (z : ℕ). Mem u (pred z)) e m)
-  edge-star m (on p k) = next (edge-star m p) k
+  pub edge_star : {u v w : ℕ} → Mem u (pred v) → Star pred v w → Walk pred u w
+  edge_star {u} m (here e) = edge (subst (λ (z : ℕ). Mem u (pred z)) e m)
+  edge_star m (on p k) = next (edge_star m p) k
 
-  pub walk-star : {u v : ℕ} → Walk pred u v → Star pred u v
-  walk-star (edge m) = star-edge m
-  walk-star (next p m) = on (walk-star p) m
+  pub walk_star : {u v : ℕ} → Walk pred u v → Star pred u v
+  walk_star (edge m) = star_edge m
+  walk_star (next p m) = on (walk_star p) m
 
-  pub via-star : {S : List ℕ} {z x : ℕ} → Via pred S z x → Star pred z x
-  via-star (start m k) = star-edge k
-  via-star (step p m k) = on (via-star p) k
+  pub via_star : {S : List ℕ} {z x : ℕ} → Via pred S z x → Star pred z x
+  via_star (start m k) = star_edge k
+  via_star (step p m k) = on (via_star p) k
 
   -- the first edge
-  via-first : {S : List ℕ} {z x : ℕ} → Via pred S z x → (y : ℕ) × Mem y S × Mem z (pred y)
-  via-first (start {x = x} m k) = (x, m, k)
-  via-first (step p m k) = via-first p
+  via_first : {S : List ℕ} {z x : ℕ} → Via pred S z x → (y : ℕ) × Mem y S × Mem z (pred y)
+  via_first (start {x = x} m k) = (x, m, k)
+  via_first (step p m k) = via_first p
 
   -- through one vertex more: without it, or from it
-  via-split : {S : List ℕ} {t z x : ℕ} → Via pred (t ∷ S) z x → Via pred S z x ⊎ ((x ≡ t) ⊎ Via pred S t x)
-  via-split {S} {t} {z} (start {x = x} m k) = go (Memᴰ.cases_cons m)
+  via_split : {S : List ℕ} {t z x : ℕ} → Via pred (t ∷ S) z x → Via pred S z x ⊎ ((x ≡ t) ⊎ Via pred S t x)
+  via_split {S} {t} {z} (start {x = x} m k) = go (Memᴰ.cases_cons m)
     where
       go : (x ≡ t) ⊎ Mem x S → Via pred S z x ⊎ ((x ≡ t) ⊎ Via pred S t x)
       go (inl e) = inr (inl e)
       go (inr i) = inl (start i k)
-  via-split {S} {t} {z} (step {y = y} {x = x} p m k) = go (Memᴰ.cases_cons m) (via-split p)
+  via_split {S} {t} {z} (step {y = y} {x = x} p m k) = go (Memᴰ.cases_cons m) (via_split p)
     where
       go : (x ≡ t) ⊎ Mem x S → Via pred S z y ⊎ ((y ≡ t) ⊎ Via pred S t y) → Via pred S z x ⊎ ((x ≡ t) ⊎ Via pred S t x)
       go (inl e) q = inr (inl e)
@@ -61,16 +61,16 @@ module _ (pred : ℕ → List ℕ) where
 
   -- ---- the first search
 
-  pub top-reaches : {z : ℕ} (t : ℕ) (rest : List ℕ) → Stacked pred (t ∷ rest) → Mem z (t ∷ rest) → Star pred t z
-  top-reaches t [] s m = here (sym (Memᴰ.eq_of_singleton m))
-  top-reaches {z} t (u ∷ rest) s m = go (Memᴰ.cases_cons m) (top-reaches u rest s.1)
+  pub top_reaches : {z : ℕ} (t : ℕ) (rest : List ℕ) → Stacked pred (t ∷ rest) → Mem z (t ∷ rest) → Star pred t z
+  top_reaches t [] s m = here (sym (Memᴰ.eq_of_singleton m))
+  top_reaches {z} t (u ∷ rest) s m = go (Memᴰ.cases_cons m) (top_reaches u rest s.1)
     where
       go : (z ≡ t) ⊎ Mem z (u ∷ rest) → (Mem z (u ∷ rest) → Star pred u z) → Star pred t z
       go (inl e) below = here (sym e)
-      go (inr i) below = star-cat (star-edge s.0) (below i)
+      go (inr i) below = star_cat (star_edge s.0) (below i)
 
-  pub descent-empty : {Pend : ℕ → ℕ → Type 0} → Descent pred Pend [] []
-  descent-empty = record {
+  pub descent_empty : {Pend : ℕ → ℕ → Type 0} → Descent pred Pend [] []
+  descent_empty = record {
     good = tt;
     path = tt;
     back = λ z x m p. absurd (Memᴰ.not-nil m);
@@ -80,22 +80,22 @@ module _ (pred : ℕ → List ℕ) where
 
   module _ {Pend Pend' : ℕ → ℕ → Type 0} {fin : List ℕ} where
     -- no vertex is looked at from the stack but those known: what is no longer pending is discovered
-    pub descent-skip : {stack : List ℕ} → Descent pred Pend stack fin → ((v w : ℕ) → Mem v stack → Mem w (pred v) → Pend v w → (Mem w stack ⊎ Mem w fin) ⊎ Pend' v w) → Descent pred Pend' stack fin
-    descent-skip {stack} d h = record { good = d.good; path = d.path; back = d.back; looked = λ v w m k. go v w m k (d.looked v w m k); known = d.known }
+    pub descent_skip : {stack : List ℕ} → Descent pred Pend stack fin → ((v w : ℕ) → Mem v stack → Mem w (pred v) → Pend v w → (Mem w stack ⊎ Mem w fin) ⊎ Pend' v w) → Descent pred Pend' stack fin
+    descent_skip {stack} d h = record { good = d.good; path = d.path; back = d.back; looked = λ v w m k. go v w m k (d.looked v w m k); known = d.known }
       where
         go : (v w : ℕ) → Mem v stack → Mem w (pred v) → (Mem w stack ⊎ Mem w fin) ⊎ Pend v w → (Mem w stack ⊎ Mem w fin) ⊎ Pend' v w
         go v w m k (inl s) = inl s
         go v w m k (inr p) = h v w m k p
 
     -- a vertex that is not discovered goes on the stack, if it is a predecessor of the top or the stack is empty
-    pub descent-push : {stack : List ℕ} (u : ℕ)
+    pub descent_push : {stack : List ℕ} (u : ℕ)
         → Descent pred Pend stack fin
         → Stacked pred (u ∷ stack)
         → (Mem u stack → ⊥) → (Mem u fin → ⊥)
         → ((w : ℕ) → Mem w (pred u) → Pend' u w)
         → ((v w : ℕ) → Mem v stack → Pend v w → (w ≡ u) ⊎ Pend' v w)
         → Descent pred Pend' (u ∷ stack) fin
-    descent-push {stack} u d path off unfin all rest = record {
+    descent_push {stack} u d path off unfin all rest = record {
       good = d.good;
       path = path;
       back = λ z x m p. back z x p (Memᴰ.cases_cons m);
@@ -112,7 +112,7 @@ module _ (pred : ℕ → List ℕ) where
         unseen (inr m) = unfin m
 
         back : (z x : ℕ) → Via pred fin z x → (z ≡ u) ⊎ Mem z stack → Star pred x z
-        back z x p (inl e) = let f = via-first p in absurd (unseen (d.known f.0 u f.1 (Memᴰ.cast (sym e) f.2)))
+        back z x p (inl e) = let f = via_first p in absurd (unseen (d.known f.0 u f.1 (Memᴰ.cast (sym e) f.2)))
         back z x p (inr m) = d.back z x m p
 
         more : (v w : ℕ) → Mem v stack → (Mem w stack ⊎ Mem w fin) ⊎ Pend v w → (Mem w (u ∷ stack) ⊎ Mem w fin) ⊎ Pend' v w
@@ -128,15 +128,15 @@ module _ (pred : ℕ → List ℕ) where
         looked v w k (inr m) = more v w m (d.looked v w m k)
 
     -- the top, with nothing pending, is finished
-    pub descent-finish : {rest : List ℕ} (t : ℕ)
+    pub descent_finish : {rest : List ℕ} (t : ℕ)
         → Descent pred Pend (t ∷ rest) fin
         → ((w : ℕ) → Pend t w → ⊥)
         → ((v w : ℕ) → Mem v rest → Pend v w → Pend' v w)
         → Descent pred Pend' rest (t ∷ fin)
-    descent-finish {rest} t d none keep = record {
+    descent_finish {rest} t d none keep = record {
       good = (d.good, λ x p. d.back t x (Memᴰ.head refl) p);
       path = lower rest d.path;
-      back = λ z x m p. back z x m (via-split p);
+      back = λ z x m p. back z x m (via_split p);
       looked = λ v w m k. looked v w m (d.looked v w (Memᴰ.tail m) k);
       known = λ v w m k. known v w k (Memᴰ.cases_cons m);
     }
@@ -147,8 +147,8 @@ module _ (pred : ℕ → List ℕ) where
 
         back : (z x : ℕ) → Mem z rest → Via pred fin z x ⊎ ((x ≡ t) ⊎ Via pred fin t x) → Star pred x z
         back z x m (inl p) = d.back z x (Memᴰ.tail m) p
-        back z x m (inr (inl e)) = subst (λ (y : ℕ). Star pred y z) (sym e) (top-reaches t rest d.path (Memᴰ.tail m))
-        back z x m (inr (inr p)) = star-cat (d.back t x (Memᴰ.head refl) p) (top-reaches t rest d.path (Memᴰ.tail m))
+        back z x m (inr (inl e)) = subst (λ (y : ℕ). Star pred y z) (sym e) (top_reaches t rest d.path (Memᴰ.tail m))
+        back z x m (inr (inr p)) = star_cat (d.back t x (Memᴰ.head refl) p) (top_reaches t rest d.path (Memᴰ.tail m))
 
         moved : (w : ℕ) → (w ≡ t) ⊎ Mem w rest → Mem w rest ⊎ Mem w (t ∷ fin)
         moved w (inl e) = inr (Memᴰ.head e)
@@ -172,11 +172,11 @@ module _ (pred : ℕ → List ℕ) where
 
   -- ---- the second search
 
-  pub sweep-start : {Done : ℕ → Type 0} {fin : List ℕ} → Good pred fin → ((x y : ℕ) → Mem x (pred y) → Mem y fin) → ((x : ℕ) → Done x → ⊥) → Sweep pred Done fin
-  sweep-start g all none = record { good = g; whole = λ x y d s. absurd (none x d); cover = λ x y m. inr (all x y m) }
+  pub sweep_start : {Done : ℕ → Type 0} {fin : List ℕ} → Good pred fin → ((x y : ℕ) → Mem x (pred y) → Mem y fin) → ((x : ℕ) → Done x → ⊥) → Sweep pred Done fin
+  sweep_start g all none = record { good = g; whole = λ x y d s. absurd (none x d); cover = λ x y m. inr (all x y m) }
 
-  pub sweep-skip : {Done : ℕ → Type 0} {r : ℕ} {earlier : List ℕ} → Sweep pred Done (r ∷ earlier) → Done r → Sweep pred Done earlier
-  sweep-skip {Done} {r} {earlier} s d = record { good = s.good.0; whole = s.whole; cover = λ x y m. go y (s.cover x y m) }
+  pub sweep_skip : {Done : ℕ → Type 0} {r : ℕ} {earlier : List ℕ} → Sweep pred Done (r ∷ earlier) → Done r → Sweep pred Done earlier
+  sweep_skip {Done} {r} {earlier} s d = record { good = s.good.0; whole = s.whole; cover = λ x y m. go y (s.cover x y m) }
     where
       at : (y : ℕ) → (y ≡ r) ⊎ Mem y earlier → Done y ⊎ Mem y earlier
       at y (inl e) = inl (subst Done (sym e) d)
@@ -187,8 +187,8 @@ module _ (pred : ℕ → List ℕ) where
       go y (inr m) = at y (Memᴰ.cases_cons m)
 
   module _ {Done : ℕ → Type 0} {r : ℕ} {earlier : List ℕ} where
-    pub collect-root : {Pend : ℕ → ℕ → Type 0} → (Done r → ⊥) → ((y : ℕ) → Mem r (pred y) → Pend r y) → Collect pred Done Pend r earlier (r ∷ [])
-    collect-root {Pend} n all = record {
+    pub collect_root : {Pend : ℕ → ℕ → Type 0} → (Done r → ⊥) → ((y : ℕ) → Mem r (pred y) → Pend r y) → Collect pred Done Pend r earlier (r ∷ [])
+    collect_root {Pend} n all = record {
       root = Memᴰ.head refl;
       via = λ x m. inl (Memᴰ.eq_of_singleton m);
       fresh = λ x m d. n (subst Done (Memᴰ.eq_of_singleton m) d);
@@ -197,15 +197,15 @@ module _ (pred : ℕ → List ℕ) where
     }
 
     module _ {Pend Pend' : ℕ → ℕ → Type 0} {C : List ℕ} where
-      pub collect-skip : Collect pred Done Pend r earlier C → ((x y : ℕ) → Mem x C → Mem x (pred y) → Pend x y → (Done y ⊎ Mem y C) ⊎ Pend' x y) → Collect pred Done Pend' r earlier C
-      collect-skip c h = record { root = c.root; via = c.via; fresh = c.fresh; followed = λ x y m k. go x y m k (c.followed x y m k); distinct = c.distinct }
+      pub collect_skip : Collect pred Done Pend r earlier C → ((x y : ℕ) → Mem x C → Mem x (pred y) → Pend x y → (Done y ⊎ Mem y C) ⊎ Pend' x y) → Collect pred Done Pend' r earlier C
+      collect_skip c h = record { root = c.root; via = c.via; fresh = c.fresh; followed = λ x y m k. go x y m k (c.followed x y m k); distinct = c.distinct }
         where
           go : (x y : ℕ) → Mem x C → Mem x (pred y) → (Done y ⊎ Mem y C) ⊎ Pend x y → (Done y ⊎ Mem y C) ⊎ Pend' x y
           go x y m k (inl s) = inl s
           go x y m k (inr p) = h x y m k p
 
       -- y, which an edge leads to from x, is found
-      pub collect-add : (x y : ℕ)
+      pub collect_add : (x y : ℕ)
           → Sweep pred Done (r ∷ earlier)
           → Collect pred Done Pend r earlier C
           → Mem x C → Mem x (pred y)
@@ -213,7 +213,7 @@ module _ (pred : ℕ → List ℕ) where
           → ((w : ℕ) → Mem y (pred w) → Pend' y w)
           → ((v w : ℕ) → Mem v C → Pend v w → (w ≡ y) ⊎ Pend' v w)
           → Collect pred Done Pend' r earlier (y ∷ C)
-      collect-add x y s c m k new off all rest = record {
+      collect_add x y s c m k new off all rest = record {
         root = Memᴰ.tail c.root;
         via = λ v i. via v (Memᴰ.cases_cons i);
         fresh = λ v i. fresh v (Memᴰ.cases_cons i);
@@ -256,17 +256,17 @@ module _ (pred : ℕ → List ℕ) where
 
     -- at the end
     module _ {Pend : ℕ → ℕ → Type 0} {C : List ℕ} (s : Sweep pred Done (r ∷ earlier)) (c : Collect pred Done Pend r earlier C) (over : (x y : ℕ) → Mem x C → Pend x y → ⊥) where
-      pub component-sound : (x : ℕ) → Mem x C → Same pred r x
-      component-sound x m = go (c.via x m)
+      pub component_sound : (x : ℕ) → Mem x C → Same pred r x
+      component_sound x m = go (c.via x m)
         where
           go : (x ≡ r) ⊎ Via pred earlier r x → Same pred r x
           go (inl e) = (here (sym e), here e)
-          go (inr p) = (via-star p, s.good.1 x p)
+          go (inr p) = (via_star p, s.good.1 x p)
 
-      pub component-full : {x : ℕ} → Star pred r x → Star pred x r → Mem x C
-      component-full {x} (here e) q = Memᴰ.cast (sym e) c.root
-      component-full {x} (on {w = w} p k) q =
-          let i = component-full p (star-cat (star-edge k) q) in
+      pub component_full : {x : ℕ} → Star pred r x → Star pred x r → Mem x C
+      component_full {x} (here e) q = Memᴰ.cast (sym e) c.root
+      component_full {x} (on {w = w} p k) q =
+          let i = component_full p (star_cat (star_edge k) q) in
           go i (c.followed w x i k)
         where
           go : Mem w C → (Done x ⊎ Mem x C) ⊎ Pend w x → Mem x C
@@ -275,8 +275,8 @@ module _ (pred : ℕ → List ℕ) where
           go i (inr n) = absurd (over w x i n)
 
       -- the component of r is done
-      pub sweep-next : {Done' : ℕ → Type 0} → ((x : ℕ) → Done' x ↔ (Done x ⊎ Mem x C)) → Sweep pred Done' earlier
-      sweep-next {Done'} same = record {
+      pub sweep_next : {Done' : ℕ → Type 0} → ((x : ℕ) → Done' x ↔ (Done x ⊎ Mem x C)) → Sweep pred Done' earlier
+      sweep_next {Done'} same = record {
         good = s.good.0;
         whole = λ x y d q. (same y).1 (whole x y q ((same x).0 d));
         cover = λ x y m. cover y (s.cover x y m);
@@ -284,7 +284,7 @@ module _ (pred : ℕ → List ℕ) where
         where
           whole : (x y : ℕ) → Same pred x y → Done x ⊎ Mem x C → Done y ⊎ Mem y C
           whole x y q (inl d) = inl (s.whole x y d q)
-          whole x y q (inr m) = let k = component-sound x m in inr (component-full (star-cat k.0 q.0) (star-cat q.1 k.1))
+          whole x y q (inr m) = let k = component_sound x m in inr (component_full (star_cat k.0 q.0) (star_cat q.1 k.1))
 
           at : (y : ℕ) → (y ≡ r) ⊎ Mem y earlier → Done' y ⊎ Mem y earlier
           at y (inl e) = inl ((same y).1 (inr (Memᴰ.cast e c.root)))
@@ -295,9 +295,9 @@ module _ (pred : ℕ → List ℕ) where
           cover y (inr m) = at y (Memᴰ.cases_cons m)
 
       -- a vertex alone in its component, with no edge to itself, is on no closed chain
-      pub alone-open : length C ≡ 1 → (Mem r (pred r) → ⊥) → Walk pred r r → ⊥
-      alone-open e loop (edge m) = loop m
-      alone-open e loop (next {w = w} p m) = loop (Memᴰ.cast (sym (only (component-full (walk-star p) (star-edge m)) c.root)) m)
+      pub alone_open : length C ≡ 1 → (Mem r (pred r) → ⊥) → Walk pred r r → ⊥
+      alone_open e loop (edge m) = loop m
+      alone_open e loop (next {w = w} p m) = loop (Memᴰ.cast (sym (only (component_full (walk_star p) (star_edge m)) c.root)) m)
         where
           one : (l : List ℕ) → length l ≡ 1 → (a b : ℕ) → Mem a l → Mem b l → a ≡ b
           one [] h a b i j = absurd (Memᴰ.not-nil i)
@@ -308,8 +308,8 @@ module _ (pred : ℕ → List ℕ) where
           only i j = one C e w r i j
 
       -- a vertex of a component of two or more is on a closed chain
-      pub among-closed : 1 < length C → (x : ℕ) → Mem x C → Walk pred x x
-      among-closed h x m = go (other C h c.distinct x)
+      pub among_closed : 1 < length C → (x : ℕ) → Mem x C → Walk pred x x
+      among_closed h x m = go (other C h c.distinct x)
         where
           other : (l : List ℕ) → 1 < length l → Distinct l → (x : ℕ) → (y : ℕ) × Mem y l × (y ≡ x → ⊥)
           other [] h d x = absurd (omega arith)
@@ -322,17 +322,17 @@ module _ (pred : ℕ → List ℕ) where
 
           moving : {u v : ℕ} → Star pred u v → (u ≡ v → ⊥) → Walk pred u v
           moving (here e) n = absurd (n e)
-          moving (on p k) n = star-walk p k
+          moving (on p k) n = star_walk p k
 
           go : (y : ℕ) × Mem y C × (y ≡ x → ⊥) → Walk pred x x
           go t =
-              let a = component-sound x m in
-              let b = component-sound t.0 t.1 in
-              walk-cat (moving (star-cat a.1 b.0) (λ e. t.2 (sym e))) (moving (star-cat b.1 a.0) t.2)
+              let a = component_sound x m in
+              let b = component_sound t.0 t.1 in
+              walk_cat (moving (star_cat a.1 b.0) (λ e. t.2 (sym e))) (moving (star_cat b.1 a.0) t.2)
 
       -- what the count of the component says of its members
-      pub component-marks : (x : ℕ) → Mem x C → (Mem x (pred x) → ⊥) → Walk pred x x ↔ (1 < length C)
-      component-marks x m loop = (λ w. go (length C) refl w, λ h. among-closed h x m)
+      pub component_marks : (x : ℕ) → Mem x C → (Mem x (pred x) → ⊥) → Walk pred x x ↔ (1 < length C)
+      component_marks x m loop = (λ w. go (length C) refl w, λ h. among_closed h x m)
         where
           sole : (l : List ℕ) → length l ≡ 1 → (a b : ℕ) → Mem a l → Mem b l → a ≡ b
           sole [] h a b i j = absurd (Memᴰ.not-nil i)
@@ -347,5 +347,5 @@ module _ (pred : ℕ → List ℕ) where
           go zero e w = absurd (filled C c.root e)
           go (suc zero) e w =
               let q : x ≡ r = sole C e x r m c.root in
-              absurd (alone-open e (subst (λ (z : ℕ). Mem z (pred z) → ⊥) q loop) (subst (λ (z : ℕ). Walk pred z z) q w))
+              absurd (alone_open e (subst (λ (z : ℕ). Mem z (pred z) → ⊥) q loop) (subst (λ (z : ℕ). Walk pred z z) q w))
           go (suc (suc n)) e w = omega arith

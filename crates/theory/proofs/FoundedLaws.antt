@@ -8,83 +8,83 @@ use Rattle.theory.specs.Sets.{Is, Set, ◌⊆◌, Mem, member}
 use Rattle.theory.specs.Least.{has, least}
 use Rattle.theory.specs.Theory.{Theory}
 use Rattle.theory.specs.Truth.{fires}
-use Rattle.theory.specs.Founded.{cyclic, atomTruth, produced, foundedStep, founded, missing}
-use Rattle.theory.proofs.SetLaws.{mem-member, member-mem, below-found, below_holds, and_intro, and_left, and_right, or_cases, or_left, or_right, not-true, not-false}
-use Rattle.theory.proofs.LeastLaws.{least-induct, least-closed}
-use Rattle.theory.proofs.TruthLaws.{fires-mono}
-use Rattle.theory.proofs.CycleLaws.{cyclic-walk}
+use Rattle.theory.specs.Founded.{cyclic, atom_truth, produced, founded_step, founded, missing}
+use Rattle.theory.proofs.SetLaws.{mem_member, member_mem, below_found, below_holds, and_intro, and_left, and_right, or_cases, or_left, or_right, not_true, not_false}
+use Rattle.theory.proofs.LeastLaws.{least_induct, least_closed}
+use Rattle.theory.proofs.TruthLaws.{fires_mono}
+use Rattle.theory.proofs.CycleLaws.{cyclic_walk}
 
 -- more founded atoms, more true ones
-pub atomTruth-mono : (c cut s t : Set) → s ⊆ t → atomTruth c cut s ⊆ atomTruth c cut t
-unfolding atomTruth
-atomTruth-mono c cut s t h a p = go (or_cases (c a && s a) (not (c a) && not (cut a)) p)
+pub atom_truth_mono : (c cut s t : Set) → s ⊆ t → atom_truth c cut s ⊆ atom_truth c cut t
+unfolding atom_truth
+atom_truth_mono c cut s t h a p = go (or_cases (c a && s a) (not (c a) && not (cut a)) p)
   where
     go : Is (c a && s a) ⊎ Is (not (c a) && not (cut a)) → Is (c a && t a || not (c a) && not (cut a))
     go (inl q) = or_left (c a && t a) _ (and_intro (and_left (c a) (s a) q) (h a (and_right (c a) (s a) q)))
     go (inr q) = or_right (c a && t a) _ q
 
 module _ (th : Theory) (never : Set) where
-  pub produced-by : (atom : Set) (a : ℕ) → Is (produced th never atom a) ↔ ((p : ℕ) × (p < th.producers) × Mem a (th.heads p) × Is (fires th never atom (th.body p)))
+  pub produced_by : (atom : Set) (a : ℕ) → Is (produced th never atom a) ↔ ((p : ℕ) × (p < th.producers) × Mem a (th.heads p) × Is (fires th never atom (th.body p)))
   unfolding produced
-  produced-by atom a = (
-    λ q. let r = below-found th.producers _ q in
-        (r.0, r.1, member-mem a (th.heads r.0) (and_left (member a (th.heads r.0)) _ r.2), and_right (member a (th.heads r.0)) _ r.2),
-    λ r. below_holds th.producers (λ p. member a (th.heads p) && fires th never atom (th.body p)) r.0 r.1 (and_intro (mem-member r.2) r.3),
+  produced_by atom a = (
+    λ q. let r = below_found th.producers _ q in
+        (r.0, r.1, member_mem a (th.heads r.0) (and_left (member a (th.heads r.0)) _ r.2), and_right (member a (th.heads r.0)) _ r.2),
+    λ r. below_holds th.producers (λ p. member a (th.heads p) && fires th never atom (th.body p)) r.0 r.1 (and_intro (mem_member r.2) r.3),
   )
 
-  produced-mono : (v w : Set) → v ⊆ w → produced th never v ⊆ produced th never w
-  produced-mono v w h a q = let r = (produced-by v a).0 q in (produced-by w a).1 (r.0, r.1, r.2, fires-mono th never v w h (th.body r.0) r.3)
+  produced_mono : (v w : Set) → v ⊆ w → produced th never v ⊆ produced th never w
+  produced_mono v w h a q = let r = (produced_by v a).0 q in (produced_by w a).1 (r.0, r.1, r.2, fires_mono th never v w h (th.body r.0) r.3)
 
-  module _ (atomNever : Set) where
-    step-mono : (s t : Set) → s ⊆ t → foundedStep th never atomNever s ⊆ foundedStep th never atomNever t
-    unfolding foundedStep
-    step-mono s t h a p =
-        and_intro (and_left (cyclic th a && not (atomNever a)) _ p)
-        (produced-mono _ _ (atomTruth-mono (cyclic th) atomNever s t h) a (and_right (cyclic th a && not (atomNever a)) _ p))
+  module _ (atom_never : Set) where
+    step_mono : (s t : Set) → s ⊆ t → founded_step th never atom_never s ⊆ founded_step th never atom_never t
+    unfolding founded_step
+    step_mono s t h a p =
+        and_intro (and_left (cyclic th a && not (atom_never a)) _ p)
+        (produced_mono _ _ (atom_truth_mono (cyclic th) atom_never s t h) a (and_right (cyclic th a && not (atom_never a)) _ p))
 
     -- a is a cyclic uncut head of a producer that fires, with the atoms of s founded
     pub record Derived (s : Set) (a : ℕ) : Type 0 where
-      pub on-cycle : Is (cyclic th a)
-      pub uncut : atomNever a ≡ false
+      pub on_cycle : Is (cyclic th a)
+      pub uncut : atom_never a ≡ false
       pub by : ℕ
-      pub by-low : by < th.producers
+      pub by_low : by < th.producers
       pub head : Mem a (th.heads by)
-      pub fired : Is (fires th never (atomTruth (cyclic th) atomNever s) (th.body by))
+      pub fired : Is (fires th never (atom_truth (cyclic th) atom_never s) (th.body by))
 
-    derived-step : (s : Set) (a : ℕ) → Is (foundedStep th never atomNever s a) ↔ Derived s a
-    unfolding foundedStep
-    derived-step s a = (
-      λ q. let front = and_left (cyclic th a && not (atomNever a)) _ q in
-          let r = (produced-by _ a).0 (and_right (cyclic th a && not (atomNever a)) _ q) in
-          record { on-cycle = and_left (cyclic th a) _ front; uncut = not-true (atomNever a) (and_right (cyclic th a) _ front); by = r.0; by-low = r.1; head = r.2; fired = r.3 },
-      λ d. and_intro (and_intro d.on-cycle (not-false (atomNever a) d.uncut)) ((produced-by (atomTruth (cyclic th) atomNever s) a).1 (d.by, d.by-low, d.head, d.fired)),
+    derived_step : (s : Set) (a : ℕ) → Is (founded_step th never atom_never s a) ↔ Derived s a
+    unfolding founded_step
+    derived_step s a = (
+      λ q. let front = and_left (cyclic th a && not (atom_never a)) _ q in
+          let r = (produced_by _ a).0 (and_right (cyclic th a && not (atom_never a)) _ q) in
+          record { on_cycle = and_left (cyclic th a) _ front; uncut = not_true (atom_never a) (and_right (cyclic th a) _ front); by = r.0; by_low = r.1; head = r.2; fired = r.3 },
+      λ d. and_intro (and_intro d.on_cycle (not_false (atom_never a) d.uncut)) ((produced_by (atom_truth (cyclic th) atom_never s) a).1 (d.by, d.by_low, d.head, d.fired)),
     )
 
-    pub founded-closed : (a p : ℕ) → Is (cyclic th a) → atomNever a ≡ false → p < th.producers → Mem a (th.heads p)
-        → Is (fires th never (atomTruth (cyclic th) atomNever (founded th never atomNever)) (th.body p)) → Is (founded th never atomNever a)
+    pub founded_closed : (a p : ℕ) → Is (cyclic th a) → atom_never a ≡ false → p < th.producers → Mem a (th.heads p)
+        → Is (fires th never (atom_truth (cyclic th) atom_never (founded th never atom_never)) (th.body p)) → Is (founded th never atom_never a)
     unfolding founded
-    founded-closed a p m c l h f =
-        least-closed th.atoms (foundedStep th never atomNever) step-mono a ((cyclic-walk th a).0 m).0
-        ((derived-step (has (least th.atoms (foundedStep th never atomNever))) a).1 (record { on-cycle = m; uncut = c; by = p; by-low = l; head = h; fired = f }))
+    founded_closed a p m c l h f =
+        least_closed th.atoms (founded_step th never atom_never) step_mono a ((cyclic_walk th a).0 m).0
+        ((derived_step (has (least th.atoms (founded_step th never atom_never))) a).1 (record { on_cycle = m; uncut = c; by = p; by_low = l; head = h; fired = f }))
 
-    pub founded-induct : (P : ℕ → Type 0) → ((s : Set) → ((a : ℕ) → Is (s a) → P a) → (a : ℕ) → Derived s a → P a) → (a : ℕ) → Is (founded th never atomNever a) → P a
+    pub founded_induct : (P : ℕ → Type 0) → ((s : Set) → ((a : ℕ) → Is (s a) → P a) → (a : ℕ) → Derived s a → P a) → (a : ℕ) → Is (founded th never atom_never a) → P a
     unfolding founded
-    founded-induct P pass a q = least-induct th.atoms (foundedStep th never atomNever) P (λ s ih b l k. pass s ih b ((derived-step s b).0 k)) a q
+    founded_induct P pass a q = least_induct th.atoms (founded_step th never atom_never) P (λ s ih b l k. pass s ih b ((derived_step s b).0 k)) a q
 
-    pub founded-least : (s : Set)
-        → ((a p : ℕ) → Is (cyclic th a) → atomNever a ≡ false → p < th.producers → Mem a (th.heads p) → Is (fires th never (atomTruth (cyclic th) atomNever s) (th.body p)) → Is (s a))
-        → founded th never atomNever ⊆ s
-    founded-least s closed = founded-induct (λ a. Is (s a)) pass
+    pub founded_least : (s : Set)
+        → ((a p : ℕ) → Is (cyclic th a) → atom_never a ≡ false → p < th.producers → Mem a (th.heads p) → Is (fires th never (atom_truth (cyclic th) atom_never s) (th.body p)) → Is (s a))
+        → founded th never atom_never ⊆ s
+    founded_least s closed = founded_induct (λ a. Is (s a)) pass
       where
         pass : (u : Set) → u ⊆ s → (a : ℕ) → Derived u a → Is (s a)
         pass u ih a d =
-            closed a d.by d.on-cycle d.uncut d.by-low d.head
-            (fires-mono th never _ _ (atomTruth-mono (cyclic th) atomNever u s ih) (th.body d.by) d.fired)
+            closed a d.by d.on_cycle d.uncut d.by_low d.head
+            (fires_mono th never _ _ (atom_truth_mono (cyclic th) atom_never u s ih) (th.body d.by) d.fired)
 
-    pub missing-parts : (a : ℕ) → Is (missing th never atomNever a) ↔ (Is (cyclic th a) × (atomNever a ≡ false) × (founded th never atomNever a ≡ false))
+    pub missing_parts : (a : ℕ) → Is (missing th never atom_never a) ↔ (Is (cyclic th a) × (atom_never a ≡ false) × (founded th never atom_never a ≡ false))
     unfolding missing
-    missing-parts a = (
-      λ z. let front = and_left (cyclic th a && not (atomNever a)) _ z in
-          (and_left (cyclic th a) _ front, not-true (atomNever a) (and_right (cyclic th a) _ front), not-true (founded th never atomNever a) (and_right (cyclic th a && not (atomNever a)) _ z)),
-      λ r. and_intro (and_intro r.0 (not-false (atomNever a) r.1)) (not-false (founded th never atomNever a) r.2),
+    missing_parts a = (
+      λ z. let front = and_left (cyclic th a && not (atom_never a)) _ z in
+          (and_left (cyclic th a) _ front, not_true (atom_never a) (and_right (cyclic th a) _ front), not_true (founded th never atom_never a) (and_right (cyclic th a && not (atom_never a)) _ z)),
+      λ r. and_intro (and_intro r.0 (not_false (atom_never a) r.1)) (not_false (founded th never atom_never a) r.2),
     )

@@ -13,15 +13,15 @@ use Rattle.theory.specs.Sets.{Is, Set, Mem}
 use Rattle.theory.specs.Components.{Stacked}
 use Rattle.theory.specs.Search.{Searching, Ordered}
 use Rattle.theory.proofs.CountLaws.{pigeonhole}
-use Rattle.theory.proofs.ComponentLaws.{descent-empty, descent-skip, descent-push, descent-finish}
+use Rattle.theory.proofs.ComponentLaws.{descent_empty, descent_skip, descent_push, descent_finish}
 
 module _ {b : ℕ} {pred : ℕ → List ℕ} {graph : Set} where
-  pub search-start : {mark : ℕ → ℕ} {rest : ℕ → List ℕ} → ((v : ℕ) → v < b → graph v ≡ false → mark v ≡ 0) → ((v : ℕ) → v < b → Is (graph v) → mark v ≡ 1)
+  pub search_start : {mark : ℕ → ℕ} {rest : ℕ → List ℕ} → ((v : ℕ) → v < b → graph v ≡ false → mark v ≡ 0) → ((v : ℕ) → v < b → Is (graph v) → mark v ≡ 1)
       → ((v : ℕ) → v < b → mark v ≡ 2 → ⊥) → Searching b pred graph [] [] mark rest
-  search-start out new none = record {
-    descent = descent-empty pred;
-    stack-once = tt;
-    fin-once = tt;
+  search_start out new none = record {
+    descent = descent_empty pred;
+    stack_once = tt;
+    fin_once = tt;
     apart = λ v m f. Memᴰ.not-nil m;
     low = λ v m. absurd (neither m);
     inside = λ v m. absurd (neither m);
@@ -38,23 +38,23 @@ module _ {b : ℕ} {pred : ℕ → List ℕ} {graph : Set} where
 
   module _ {stack fin : List ℕ} {mark : ℕ → ℕ} {rest : ℕ → List ℕ} (s : Searching b pred graph stack fin mark rest) where
     -- there is room for what is finished, and for a vertex more on the stack
-    pub fin-fits : length fin ≤ b
-    fin-fits = pigeonhole b fin s.fin-once (λ v m. s.low v (inr m))
+    pub fin_fits : length fin ≤ b
+    fin_fits = pigeonhole b fin s.fin_once (λ v m. s.low v (inr m))
 
-    pub stack-fits : (w : ℕ) → w < b → mark w ≡ 1 → length stack < b
-    stack-fits w l e = pigeonhole b (w ∷ stack) ((λ m. let k = s.marked w (inl m) in omega arith), s.stack-once) (λ v m. go v (Memᴰ.cases_cons m))
+    pub stack_fits : (w : ℕ) → w < b → mark w ≡ 1 → length stack < b
+    stack_fits w l e = pigeonhole b (w ∷ stack) ((λ m. let k = s.marked w (inl m) in omega arith), s.stack_once) (λ v m. go v (Memᴰ.cases_cons m))
       where
         go : (v : ℕ) → (v ≡ w) ⊎ Mem v stack → v < b
         go v (inl q) = subst (λ (z : ℕ). z < b) (sym q) l
         go v (inr m) = s.low v (inl m)
 
     -- marks and rests count only below b, and a rest only where it is begun
-    pub search-same : {mark' : ℕ → ℕ} {rest' : ℕ → List ℕ} → ((v : ℕ) → v < b → mark' v ≡ mark v) → ((v : ℕ) → v < b → mark v ≡ 2 → rest' v ≡ rest v)
+    pub search_same : {mark' : ℕ → ℕ} {rest' : ℕ → List ℕ} → ((v : ℕ) → v < b → mark' v ≡ mark v) → ((v : ℕ) → v < b → mark v ≡ 2 → rest' v ≡ rest v)
         → Searching b pred graph stack fin mark' rest'
-    search-same {mark'} {rest'} marks rests = record {
-      descent = descent-skip pred s.descent (λ v w m i p. inr (subst (λ (k : List ℕ). Mem w k) (sym (on v m)) p));
-      stack-once = s.stack-once;
-      fin-once = s.fin-once;
+    search_same {mark'} {rest'} marks rests = record {
+      descent = descent_skip pred s.descent (λ v w m i p. inr (subst (λ (k : List ℕ). Mem w k) (sym (on v m)) p));
+      stack_once = s.stack_once;
+      fin_once = s.fin_once;
       apart = s.apart;
       low = s.low;
       inside = s.inside;
@@ -78,9 +78,9 @@ module _ {b : ℕ} {pred : ℕ → List ℕ} {graph : Set} where
         → ((v x : ℕ) → Mem v stack → Mem x (rest v) → (x ≡ w) ⊎ Mem x (rest' v)) → ((v x : ℕ) → Mem v stack → Mem x (rest' v) → Mem x (rest v))
         → Searching b pred graph (w ∷ stack) fin mark' rest'
     push w l g e path {mark'} {rest'} here others new keep shrink = record {
-      descent = descent-push pred w s.descent path off unfin (λ x m. subst (λ (k : List ℕ). Mem x k) (sym new) m) keep;
-      stack-once = (off, s.stack-once);
-      fin-once = s.fin-once;
+      descent = descent_push pred w s.descent path off unfin (λ x m. subst (λ (k : List ℕ). Mem x k) (sym new) m) keep;
+      stack_once = (off, s.stack_once);
+      fin_once = s.fin_once;
       apart = λ v m f. apart v f (Memᴰ.cases_cons m);
       low = λ v m. low v (split v m);
       inside = λ v m. inside v (split v m);
@@ -146,15 +146,15 @@ module _ {b : ℕ} {pred : ℕ → List ℕ} {graph : Set} where
         behind v x i (inr m) = s.behind v x m (shrink v x m i)
 
   -- a root on the empty stack
-  pub search-root : {fin : List ℕ} {mark mark' : ℕ → ℕ} {rest rest' : ℕ → List ℕ} → Searching b pred graph [] fin mark rest → (w : ℕ) → w < b → Is (graph w) → mark w ≡ 1
+  pub search_root : {fin : List ℕ} {mark mark' : ℕ → ℕ} {rest rest' : ℕ → List ℕ} → Searching b pred graph [] fin mark rest → (w : ℕ) → w < b → Is (graph w) → mark w ≡ 1
       → mark' w ≡ 2 → ((v : ℕ) → v < b → v ≢ w → mark' v ≡ mark v) → rest' w ≡ pred w → Searching b pred graph (w ∷ []) fin mark' rest'
-  search-root s w l g e here others new = push s w l g e tt here others new (λ v x m. absurd (Memᴰ.not-nil m)) (λ v x m. absurd (Memᴰ.not-nil m))
+  search_root s w l g e here others new = push s w l g e tt here others new (λ v x m. absurd (Memᴰ.not-nil m)) (λ v x m. absurd (Memᴰ.not-nil m))
 
   -- the next entry x of the top, v, is looked at
   module _ {v : ℕ} {stack fin : List ℕ} {mark : ℕ → ℕ} {rest : ℕ → List ℕ} (s : Searching b pred graph (v ∷ stack) fin mark rest)
       {x : ℕ} {more : List ℕ} (e : rest v ≡ x ∷ more) where
-    pub entry-edge : Mem x (pred v)
-    entry-edge = s.behind v x (Memᴰ.head refl) (subst (λ (k : List ℕ). Mem x k) (sym e) (Memᴰ.head refl))
+    pub entry_edge : Mem x (pred v)
+    entry_edge = s.behind v x (Memᴰ.head refl) (subst (λ (k : List ℕ). Mem x k) (sym e) (Memᴰ.head refl))
 
     module _ {rest' : ℕ → List ℕ} (here : rest' v ≡ more) (others : (u : ℕ) → u < b → u ≢ v → mark u ≡ 2 → rest' u ≡ rest u) where
       keep : (u y : ℕ) → Mem u (v ∷ stack) → Mem y (rest u) → (y ≡ x) ⊎ Mem y (rest' u)
@@ -176,11 +176,11 @@ module _ {b : ℕ} {pred : ℕ → List ℕ} {graph : Set} where
           go (no n) = subst (λ (k : List ℕ). Mem y k) (others u (s.low u (inl m)) n (s.marked u (inl m))) i
 
       -- x is met already
-      pub search-known : x < b → mark x ≡ 2 → Searching b pred graph (v ∷ stack) fin mark rest'
-      search-known l k = record {
-        descent = descent-skip pred s.descent (λ u y m i p. go u y (keep u y m p));
-        stack-once = s.stack-once;
-        fin-once = s.fin-once;
+      pub search_known : x < b → mark x ≡ 2 → Searching b pred graph (v ∷ stack) fin mark rest'
+      search_known l k = record {
+        descent = descent_skip pred s.descent (λ u y m i p. go u y (keep u y m p));
+        stack_once = s.stack_once;
+        fin_once = s.fin_once;
         apart = s.apart;
         low = s.low;
         inside = s.inside;
@@ -196,17 +196,17 @@ module _ {b : ℕ} {pred : ℕ → List ℕ} {graph : Set} where
           go u y (inr m) = inr m
 
       -- x is new
-      pub search-new : x < b → Is (graph x) → mark x ≡ 1 → {mark' : ℕ → ℕ} → mark' x ≡ 2 → ((u : ℕ) → u < b → u ≢ x → mark' u ≡ mark u) → rest' x ≡ pred x
+      pub search_new : x < b → Is (graph x) → mark x ≡ 1 → {mark' : ℕ → ℕ} → mark' x ≡ 2 → ((u : ℕ) → u < b → u ≢ x → mark' u ≡ mark u) → rest' x ≡ pred x
           → Searching b pred graph (x ∷ v ∷ stack) fin mark' rest'
-      search-new l g k at same new = push s x l g k (entry-edge, s.descent.path) at same new keep shrink
+      search_new l g k at same new = push s x l g k (entry_edge, s.descent.path) at same new keep shrink
 
   -- the top has nothing left to look at
-  pub search-finish : {v : ℕ} {stack fin : List ℕ} {mark : ℕ → ℕ} {rest : ℕ → List ℕ} → Searching b pred graph (v ∷ stack) fin mark rest → rest v ≡ []
+  pub search_finish : {v : ℕ} {stack fin : List ℕ} {mark : ℕ → ℕ} {rest : ℕ → List ℕ} → Searching b pred graph (v ∷ stack) fin mark rest → rest v ≡ []
       → Searching b pred graph stack (v ∷ fin) mark rest
-  search-finish {v} {stack} {fin} {mark} {rest} s e = record {
-    descent = descent-finish pred v s.descent (λ w i. Memᴰ.not-nil (subst (λ (k : List ℕ). Mem w k) e i)) (λ u w m i. i);
-    stack-once = s.stack-once.1;
-    fin-once = ((λ m. s.apart v (Memᴰ.head refl) m), s.fin-once);
+  search_finish {v} {stack} {fin} {mark} {rest} s e = record {
+    descent = descent_finish pred v s.descent (λ w i. Memᴰ.not-nil (subst (λ (k : List ℕ). Mem w k) e i)) (λ u w m i. i);
+    stack_once = s.stack_once.1;
+    fin_once = ((λ m. s.apart v (Memᴰ.head refl) m), s.fin_once);
     apart = λ u m f. apart u m (Memᴰ.cases_cons f);
     low = λ u m. s.low u (back u m);
     inside = λ u m. s.inside u (back u m);
@@ -218,7 +218,7 @@ module _ {b : ℕ} {pred : ℕ → List ℕ} {graph : Set} where
   }
     where
       apart : (u : ℕ) → Mem u stack → (u ≡ v) ⊎ Mem u fin → ⊥
-      apart u m (inl q) = s.stack-once.0 (subst (λ (z : ℕ). Mem z stack) q m)
+      apart u m (inl q) = s.stack_once.0 (subst (λ (z : ℕ). Mem z stack) q m)
       apart u m (inr f) = s.apart u (Memᴰ.tail m) f
 
       back : (u : ℕ) → Mem u stack ⊎ Mem u (v ∷ fin) → Mem u (v ∷ stack) ⊎ Mem u fin
@@ -238,10 +238,10 @@ module _ {b : ℕ} {pred : ℕ → List ℕ} {graph : Set} where
       forth u (inr m) = inr (Memᴰ.tail m)
 
   -- no vertex of the graph is unmet
-  pub search-end : {fin : List ℕ} {mark : ℕ → ℕ} {rest : ℕ → List ℕ} → Searching b pred graph [] fin mark rest → ((v : ℕ) → v < b → mark v ≢ 1) → Ordered b pred graph fin
-  search-end {fin} {mark} s none = record {
+  pub search_end : {fin : List ℕ} {mark : ℕ → ℕ} {rest : ℕ → List ℕ} → Searching b pred graph [] fin mark rest → ((v : ℕ) → v < b → mark v ≢ 1) → Ordered b pred graph fin
+  search_end {fin} {mark} s none = record {
     good = s.descent.good;
-    once = s.fin-once;
+    once = s.fin_once;
     full = λ v l g. go v l (s.unmet v l g);
     only = λ v m. (s.inside v (inr m), s.low v (inr m));
   }

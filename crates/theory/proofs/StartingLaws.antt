@@ -22,13 +22,13 @@ module _ (b : ℕ) (mode : ℕ → Mode) (pred : ℕ → List ℕ) where
   unfound : {count : ℕ → ℕ} (v : ℕ) → count v ≡ waits (mode v) (length (pred v)) → (count v ≡ 0 → mode v ≡ dead) → Settled b mode pred [] count v
   unfound v e h = record { waiting = e; first = (λ m. absurd (Memᴰ.not-nil m), λ q. absurd (q.1 (h q.0))) }
 
-  pub starting-begin : {heads nodes : List ℕ} {count : ℕ → ℕ}
+  pub starting_begin : {heads nodes : List ℕ} {count : ℕ → ℕ}
       → ((v : ℕ) → Mem v heads → (v < b) × (waits (mode v) (length (pred v)) ≡ 0))
       → Distinct nodes
       → ((v : ℕ) → Mem v nodes → (v < b) × (count v ≡ 0))
       → ((v : ℕ) → v < b → (((count v ≡ waits (mode v) (length (pred v))) × (count v ≡ 0 → mode v ≡ dead)) ⊎ Mem v nodes) ⊎ (Mem v heads × (mode v ≡ free) × (count v ≡ 1)))
       → Starting b mode pred heads nodes [] count
-  starting-begin {heads} {nodes} {count} named once new each = record {
+  starting_begin {heads} {nodes} {count} named once new each = record {
     distinct = tt;
     low = λ v m. absurd (Memᴰ.not-nil m);
     named = named;
@@ -46,8 +46,8 @@ module _ (b : ℕ) (mode : ℕ → Mode) (pred : ℕ → List ℕ) where
   -- ---- a step at v
 
   -- a vertex that is not in the list has room there
-  pub starting-room : {heads nodes order : List ℕ} {count : ℕ → ℕ} → Starting b mode pred heads nodes order count → (v : ℕ) → v < b → (Mem v order → ⊥) → length order < b
-  starting-room {order = order} s v l n = pigeonhole b (v ∷ order) (n, s.distinct) (λ x m. go x (Memᴰ.cases_cons m))
+  pub starting_room : {heads nodes order : List ℕ} {count : ℕ → ℕ} → Starting b mode pred heads nodes order count → (v : ℕ) → v < b → (Mem v order → ⊥) → length order < b
+  starting_room {order = order} s v l n = pigeonhole b (v ∷ order) (n, s.distinct) (λ x m. go x (Memᴰ.cases_cons m))
     where
       go : (x : ℕ) → (x ≡ v) ⊎ Mem x order → x < b
       go x (inl e) = subst (λ (z : ℕ). z < b) (sym e) l
@@ -108,8 +108,8 @@ module _ (b : ℕ) (mode : ℕ → Mode) (pred : ℕ → List ℕ) where
           turn (inl e) = let o : count u ≡ 1 = q.2 in let c : count u ≡ count v = ap count e in absurd (omega arith)
           turn (inr m) = inr (m, q.1, q.2, q.3)
 
-  more-low : {v : ℕ} {order : List ℕ} → v < b → ((u : ℕ) → Mem u order → u < b) → (u : ℕ) → Mem u (v ∷ order) → u < b
-  more-low {v} {order} l low u m = go (Memᴰ.cases_cons m)
+  more_low : {v : ℕ} {order : List ℕ} → v < b → ((u : ℕ) → Mem u order → u < b) → (u : ℕ) → Mem u (v ∷ order) → u < b
+  more_low {v} {order} l low u m = go (Memᴰ.cases_cons m)
     where
       go : (u ≡ v) ⊎ Mem u order → u < b
       go (inl e) = subst (λ (z : ℕ). z < b) (sym e) l
@@ -123,8 +123,8 @@ module _ (b : ℕ) (mode : ℕ → Mode) (pred : ℕ → List ℕ) where
       go (inr i) = i
 
   -- v is found
-  now-found : {v : ℕ} {order : List ℕ} {count : ℕ → ℕ} → waits (mode v) (length (pred v)) ≡ 0 → (mode v ≡ dead → ⊥) → count v ≡ 0 → Settled b mode pred (v ∷ order) count v
-  now-found w n z = record { waiting = z ∙ sym w; first = (λ m. (z, n), λ q. Memᴰ.head refl) }
+  now_found : {v : ℕ} {order : List ℕ} {count : ℕ → ℕ} → waits (mode v) (length (pred v)) ≡ 0 → (mode v ≡ dead → ⊥) → count v ≡ 0 → Settled b mode pred (v ∷ order) count v
+  now_found w n z = record { waiting = z ∙ sym w; first = (λ m. (z, n), λ q. Memᴰ.head refl) }
 
   -- a head of a fact that waits: it is found
   module _ {v : ℕ} {heads nodes order : List ℕ} {count : ℕ → ℕ} (s : Starting b mode pred (v ∷ heads) nodes order count) (h : 0 < count v) where
@@ -140,17 +140,17 @@ module _ (b : ℕ) (mode : ℕ → Mode) (pred : ℕ → List ℕ) where
         go (inl (inr m)) = let z = (s.new v m).1 in absurd (omega arith)
         go (inr q) = (q.1, q.3)
 
-    pub head-low : v < b
-    head-low = (s.named v (Memᴰ.head refl)).0
+    pub head_low : v < b
+    head_low = (s.named v (Memᴰ.head refl)).0
 
-    pub head-room : length order < b
-    head-room = starting-room s v head-low unmet.1
+    pub head_room : length order < b
+    head_room = starting_room s v head_low unmet.1
 
-    pub head-found : {count' : ℕ → ℕ} → count' v ≡ 0 → ((u : ℕ) → u < b → u ≢ v → count' u ≡ count u) → Starting b mode pred heads nodes (v ∷ order) count'
-    head-found {count'} z kept =
+    pub head_found : {count' : ℕ → ℕ} → count' v ≡ 0 → ((u : ℕ) → u < b → u ≢ v → count' u ≡ count u) → Starting b mode pred heads nodes (v ∷ order) count'
+    head_found {count'} z kept =
         settle s v (λ u m. Memᴰ.tail m) (λ u m. Memᴰ.cases_cons m) s.once (λ u m. (m, apart u m)) (λ u m. inr m)
-        (unmet.1, s.distinct) (more-low head-low s.low) more_same kept
-        (now-found (s.named v (Memᴰ.head refl)).1 (λ e. let k : ◌≡◌ {A = ℕ} 0 1 = differ (sym unmet.0 ∙ e) in omega arith) z)
+        (unmet.1, s.distinct) (more_low head_low s.low) more_same kept
+        (now_found (s.named v (Memᴰ.head refl)).1 (λ e. let k : ◌≡◌ {A = ℕ} 0 1 = differ (sym unmet.0 ∙ e) in omega arith) z)
       where
         apart : (u : ℕ) → Mem u nodes → u ≢ v
         apart u m e = let z = (s.new u m).1 in let c : count u ≡ count v = ap count e in omega arith
@@ -160,40 +160,40 @@ module _ (b : ℕ) (mode : ℕ → Mode) (pred : ℕ → List ℕ) where
 
   -- a node
   module _ {v : ℕ} {heads nodes order : List ℕ} {count : ℕ → ℕ} (s : Starting b mode pred heads (v ∷ nodes) order count) where
-    pub node-low : v < b
-    node-low = (s.new v (Memᴰ.head refl)).0
+    pub node_low : v < b
+    node_low = (s.new v (Memᴰ.head refl)).0
 
-    pub node-room : length order < b
-    node-room = starting-room s v node-low (s.new v (Memᴰ.head refl)).2
+    pub node_room : length order < b
+    node_room = starting_room s v node_low (s.new v (Memᴰ.head refl)).2
 
     apart : (u : ℕ) → Mem u nodes → Mem u (v ∷ nodes) × (u ≢ v)
     apart u m = (Memᴰ.tail m, λ e. s.once.0 (subst (λ (z : ℕ). Mem z nodes) e m))
 
     -- that is dead, or waits for something
-    pub node-idle : {count' : ℕ → ℕ} → count' v ≡ waits (mode v) (length (pred v)) → (count' v ≡ 0 → mode v ≡ dead) → ((u : ℕ) → u < b → u ≢ v → count' u ≡ count u)
+    pub node_idle : {count' : ℕ → ℕ} → count' v ≡ waits (mode v) (length (pred v)) → (count' v ≡ 0 → mode v ≡ dead) → ((u : ℕ) → u < b → u ≢ v → count' u ≡ count u)
         → Starting b mode pred heads nodes order count'
-    node-idle {count'} e h kept =
+    node_idle {count'} e h kept =
         settle s v (λ u m. m) (λ u m. inr m) s.once.1 apart (λ u m. Memᴰ.cases_cons m) s.distinct s.low (λ u n. (λ m. m, λ m. m)) kept
         (record { waiting = e; first = (λ m. absurd ((s.new v (Memᴰ.head refl)).2 m), λ q. absurd (q.1 (h q.0))) })
 
     -- that waits for nothing
-    pub node-found : waits (mode v) (length (pred v)) ≡ 0 → (mode v ≡ dead → ⊥) → {count' : ℕ → ℕ} → ((u : ℕ) → u < b → count' u ≡ count u) → Starting b mode pred heads nodes (v ∷ order) count'
-    node-found w n kept =
+    pub node_found : waits (mode v) (length (pred v)) ≡ 0 → (mode v ≡ dead → ⊥) → {count' : ℕ → ℕ} → ((u : ℕ) → u < b → count' u ≡ count u) → Starting b mode pred heads nodes (v ∷ order) count'
+    node_found w n kept =
         let k = s.new v (Memᴰ.head refl) in
-        settle s v (λ u m. m) (λ u m. inr m) s.once.1 apart (λ u m. Memᴰ.cases_cons m) (k.2, s.distinct) (more-low node-low s.low) more_same (λ u l d. kept u l)
-        (now-found w n (kept v node-low ∙ k.1))
+        settle s v (λ u m. m) (λ u m. inr m) s.once.1 apart (λ u m. Memᴰ.cases_cons m) (k.2, s.distinct) (more_low node_low s.low) more_same (λ u l d. kept u l)
+        (now_found w n (kept v node_low ∙ k.1))
 
   -- ---- the end: nothing is left
 
-  pub starting-end : {order : List ℕ} {count : ℕ → ℕ} → Starting b mode pred [] [] order count → Started b mode pred order count
+  pub starting_end : {order : List ℕ} {count : ℕ → ℕ} → Starting b mode pred [] [] order count → Started b mode pred order count
   unfolding waits
-  starting-end {order} {count} s = record {
+  starting_end {order} {count} s = record {
     distinct = s.distinct;
     low = s.low;
-    dead-count = λ v l e. waiting v l e;
-    free-count = λ v l e. waiting v l e;
-    single-count = λ v l e. waiting v l e;
-    every-count = λ v l e. waiting v l e;
+    dead_count = λ v l e. waiting v l e;
+    free_count = λ v l e. waiting v l e;
+    single_count = λ v l e. waiting v l e;
+    every_count = λ v l e. waiting v l e;
     first = λ v l. (settled v (s.each v l)).first;
   }
     where

@@ -9,15 +9,15 @@ use native.Mathlib.Omega.{arith}
 use native.Mathlib.Decide.{ℕ_discrete}
 use lib.ListN.{length}
 use Rattle.theory.specs.Sets.{Is, Set, Mem, any, member}
-use Rattle.theory.specs.Counts.{countIn, occ}
+use Rattle.theory.specs.Counts.{count_in, occ}
 use Rattle.theory.specs.Closure.{Mode, dead, free, single, every, fired, closure}
 use Rattle.theory.specs.Worklist.{Started, Worklist}
-use Rattle.theory.proofs.SetLaws.{any_found, any-holds, all-at, all-holds, mem-member, member-mem, clash}
-use Rattle.theory.proofs.CountLaws.{occ-same, occ-other, count-le, count-all, count-full, member-more, pigeonhole}
-use Rattle.theory.proofs.ClosureLaws.{closure-closed, closure-induct}
+use Rattle.theory.proofs.SetLaws.{any_found, any_holds, all_at, all_holds, mem_member, member_mem, clash}
+use Rattle.theory.proofs.CountLaws.{occ_same, occ_other, count_le, count_all, count_full, member_more, pigeonhole}
+use Rattle.theory.proofs.ClosureLaws.{closure_closed, closure_induct}
 
-none : (l : List ℕ) → countIn (λ u. member u []) l ≡ 0
-unfolding countIn member any
+none : (l : List ℕ) → count_in (λ u. member u []) l ≡ 0
+unfolding count_in member any
 none [] = refl
 none (x ∷ l) = none l
 
@@ -25,31 +25,31 @@ module _ (b : ℕ) (mode : ℕ → Mode) (pred : ℕ → List ℕ) where
   -- a vertex that waits for nothing and is not dead is in the closure
   fires : {order : List ℕ} {count : ℕ → ℕ} → Started b mode pred order count → (v : ℕ) → v < b → count v ≡ 0 → (mode v ≡ dead → ⊥) → Is (closure b mode pred v)
   unfolding fired
-  fires {order} {count} s v l z n = closure-closed b mode pred v l (by (mode v) refl)
+  fires {order} {count} s v l z n = closure_closed b mode pred v l (by (mode v) refl)
     where
       by : (m : Mode) → mode v ≡ m → Is (fired m (closure b mode pred) (pred v))
       by dead e = absurd (n e)
       by free e = refl
-      by single e = let c = s.single-count v l e in absurd (omega arith)
-      by every e = all-holds (closure b mode pred) (pred v) (λ x m. absurd (empty x (pred v) refl m))
+      by single e = let c = s.single_count v l e in absurd (omega arith)
+      by every e = all_holds (closure b mode pred) (pred v) (λ x m. absurd (empty x (pred v) refl m))
         where
           empty : (x : ℕ) (k : List ℕ) → pred v ≡ k → Mem x k → ⊥
           empty x [] q m = Memᴰ.not-nil m
-          empty x (y ∷ k) q m = let c = s.every-count v l e in let h = ap length q in omega arith
+          empty x (y ∷ k) q m = let c = s.every_count v l e in let h = ap length q in omega arith
 
-  pub worklist-start : {order : List ℕ} {count : ℕ → ℕ} → Started b mode pred order count → Worklist b mode pred order [] [] count
-  unfolding countIn
-  worklist-start {order} {count} s = record {
+  pub worklist_start : {order : List ℕ} {count : ℕ → ℕ} → Started b mode pred order count → Worklist b mode pred order [] [] count
+  unfolding count_in
+  worklist_start {order} {count} s = record {
     distinct = s.distinct;
     low = s.low;
     begun = λ v m. absurd (Memᴰ.not-nil m);
     sound = λ v m. let f = (s.first v (s.low v m)).0 m in fires s v (s.low v m) f.0 f.1;
     ahead = λ v m. absurd (Memᴰ.not-nil m);
-    starts = λ v l e. (s.first v l).1 (s.free-count v l e, λ d. differ (sym e ∙ d));
-    once = λ v l e. let c = s.single-count v l e in omega arith;
+    starts = λ v l e. (s.first v l).1 (s.free_count v l e, λ d. differ (sym e ∙ d));
+    once = λ v l e. let c = s.single_count v l e in omega arith;
     passed = λ u v l e m i. absurd (Memᴰ.not-nil i);
-    tally = λ v l e. let c = s.every-count v l e in let n = none (pred v) in omega arith;
-    idle = s.dead-count;
+    tally = λ v l e. let c = s.every_count v l e in let n = none (pred v) in omega arith;
+    idle = s.dead_count;
     found = λ v l z. found v l z (mode v) refl;
     spent = λ v m. ((s.first v (s.low v m)).0 m).0;
   }
@@ -65,11 +65,11 @@ module _ (b : ℕ) (mode : ℕ → Mode) (pred : ℕ → List ℕ) where
 
   -- ---- the row of a found vertex is begun
 
-  pub worklist-begin : {order done : List ℕ} {count : ℕ → ℕ} {u : ℕ} (row : List ℕ) → Worklist b mode pred order done [] count → Mem u order → (Mem u done → ⊥)
+  pub worklist_begin : {order done : List ℕ} {count : ℕ → ℕ} {u : ℕ} (row : List ℕ) → Worklist b mode pred order done [] count → Mem u order → (Mem u done → ⊥)
       → ((v : ℕ) → v < b → occ v row ≡ occ u (pred v)) → ((v : ℕ) → Mem v row → (v < b) × Mem u (pred v)) → ((v : ℕ) → v < b → Mem u (pred v) → Mem v row)
       → Worklist b mode pred order (u ∷ done) row count
-  unfolding countIn
-  worklist-begin {order} {done} {count} {u} row s m n turned from to = record {
+  unfolding count_in
+  worklist_begin {order} {done} {count} {u} row s m n turned from to = record {
     distinct = s.distinct;
     low = s.low;
     begun = λ v i. begun v (Memᴰ.cases_cons i);
@@ -78,7 +78,7 @@ module _ (b : ℕ) (mode : ℕ → Mode) (pred : ℕ → List ℕ) where
     starts = s.starts;
     once = s.once;
     passed = λ w v l e k i. passed w v l e k (Memᴰ.cases_cons i);
-    tally = λ v l e. let t = s.tally v l e in let c = member-more u done n (pred v) in let q = turned v l in omega arith;
+    tally = λ v l e. let t = s.tally v l e in let c = member_more u done n (pred v) in let q = turned v l in omega arith;
     idle = s.idle;
     found = s.found;
     spent = s.spent;
@@ -99,15 +99,15 @@ module _ (b : ℕ) (mode : ℕ → Mode) (pred : ℕ → List ℕ) where
   -- ---- an entry of the row
 
   module _ {order done : List ℕ} {v : ℕ} {todo : List ℕ} {count : ℕ → ℕ} (s : Worklist b mode pred order done (v ∷ todo) count) where
-    pub entry-low : v < b
-    entry-low = (s.ahead v (Memᴰ.head refl)).0
+    pub entry_low : v < b
+    entry_low = (s.ahead v (Memᴰ.head refl)).0
 
     -- a vertex that waits for all its predecessors waits for this entry
-    every-waits : mode v ≡ every → 0 < count v
-    every-waits e =
-        let t = s.tally v entry-low e in
-        let c = count-le (λ u. member u done) (pred v) in
-        let o = occ-same v todo in
+    every_waits : mode v ≡ every → 0 < count v
+    every_waits e =
+        let t = s.tally v entry_low e in
+        let c = count_le (λ u. member u done) (pred v) in
+        let o = occ_same v todo in
         omega arith
 
     later : (x : ℕ) → x ≢ v → Mem x order ⊎ Mem x (v ∷ todo) → Mem x order ⊎ Mem x todo
@@ -119,8 +119,8 @@ module _ (b : ℕ) (mode : ℕ → Mode) (pred : ℕ → List ℕ) where
         go (inr i) = inr i
 
     -- v is found already, or never will be
-    pub entry-idle : count v ≡ 0 → Worklist b mode pred order done todo count
-    entry-idle z = record {
+    pub entry_idle : count v ≡ 0 → Worklist b mode pred order done todo count
+    entry_idle z = record {
       distinct = s.distinct;
       low = s.low;
       begun = s.begun;
@@ -140,36 +140,36 @@ module _ (b : ℕ) (mode : ℕ → Mode) (pred : ℕ → List ℕ) where
         here e (inr d) = let k : ◌≡◌ {A = ℕ} 0 1 = cc in absurd (omega arith)
 
         passed : (u x : ℕ) → x < b → mode x ≡ single → Mem u (pred x) → Mem u done → Dec (x ≡ v) → Mem x order ⊎ Mem x todo
-        passed u x l e m i (yes q) = inl (subst (λ (z : ℕ). Mem z order) (sym q) (here (sym (ap mode q) ∙ e) (s.found v entry-low z)))
+        passed u x l e m i (yes q) = inl (subst (λ (z : ℕ). Mem z order) (sym q) (here (sym (ap mode q) ∙ e) (s.found v entry_low z)))
         passed u x l e m i (no n) = later x n (s.passed u x l e m i)
 
-        tally : (x : ℕ) → x < b → mode x ≡ every → Dec (x ≡ v) → count x + countIn (λ u. member u done) (pred x) ≡ length (pred x) + occ x todo
-        tally x l e (yes q) = let w = every-waits (sym (ap mode q) ∙ e) in absurd (omega arith)
-        tally x l e (no n) = let t = s.tally x l e in let o = occ-other x v todo n in omega arith
+        tally : (x : ℕ) → x < b → mode x ≡ every → Dec (x ≡ v) → count x + count_in (λ u. member u done) (pred x) ≡ length (pred x) + occ x todo
+        tally x l e (yes q) = let w = every_waits (sym (ap mode q) ∙ e) in absurd (omega arith)
+        tally x l e (no n) = let t = s.tally x l e in let o = occ_other x v todo n in omega arith
 
     module _ (count' : ℕ → ℕ) (fewer : count v ≡ suc (count' v)) (others : (x : ℕ) → x < b → x ≢ v → count' x ≡ count x) where
       fresh : Mem v order → ⊥
       fresh m = let z = s.spent v m in omega arith
 
-      pub entry-room : length order < b
-      entry-room = pigeonhole b (v ∷ order) (fresh, s.distinct) (λ x m. go x (Memᴰ.cases_cons m))
+      pub entry_room : length order < b
+      entry_room = pigeonhole b (v ∷ order) (fresh, s.distinct) (λ x m. go x (Memᴰ.cases_cons m))
         where
           go : (x : ℕ) → (x ≡ v) ⊎ Mem x order → x < b
-          go x (inl e) = subst (λ (z : ℕ). z < b) (sym e) entry-low
+          go x (inl e) = subst (λ (z : ℕ). z < b) (sym e) entry_low
           go x (inr m) = s.low x m
 
-      tally : (x : ℕ) → x < b → mode x ≡ every → Dec (x ≡ v) → count' x + countIn (λ u. member u done) (pred x) ≡ length (pred x) + occ x todo
+      tally : (x : ℕ) → x < b → mode x ≡ every → Dec (x ≡ v) → count' x + count_in (λ u. member u done) (pred x) ≡ length (pred x) + occ x todo
       tally x l e (yes q) =
-          subst (λ (z : ℕ). count' z + countIn (λ u. member u done) (pred z) ≡ length (pred z) + occ z todo) (sym q)
-          (let t = s.tally v entry-low (sym (ap mode q) ∙ e) in let o = occ-same v todo in omega arith)
-      tally x l e (no n) = let t = s.tally x l e in let o = occ-other x v todo n in let k = others x l n in omega arith
+          subst (λ (z : ℕ). count' z + count_in (λ u. member u done) (pred z) ≡ length (pred z) + occ z todo) (sym q)
+          (let t = s.tally v entry_low (sym (ap mode q) ∙ e) in let o = occ_same v todo in omega arith)
+      tally x l e (no n) = let t = s.tally x l e in let o = occ_other x v todo n in let k = others x l n in omega arith
 
       idle : (x : ℕ) → x < b → mode x ≡ dead → Dec (x ≡ v) → count' x ≡ 0
-      idle x l e (yes q) = let z = s.idle v entry-low (sym (ap mode q) ∙ e) in absurd (omega arith)
+      idle x l e (yes q) = let z = s.idle v entry_low (sym (ap mode q) ∙ e) in absurd (omega arith)
       idle x l e (no n) = others x l n ∙ s.idle x l e
 
       once : (x : ℕ) → x < b → mode x ≡ single → Dec (x ≡ v) → count' x ≤ 1
-      once x l e (yes q) = let z = s.once v entry-low (sym (ap mode q) ∙ e) in let k = ap count' q in omega arith
+      once x l e (yes q) = let z = s.once v entry_low (sym (ap mode q) ∙ e) in let k = ap count' q in omega arith
       once x l e (no n) = let k = others x l n in let z = s.once x l e in omega arith
 
       spent : (x : ℕ) → Mem x order → count' x ≡ 0
@@ -180,8 +180,8 @@ module _ (b : ℕ) (mode : ℕ → Mode) (pred : ℕ → List ℕ) where
           go (no n) = others x (s.low x m) n ∙ s.spent x m
 
       -- others are still to come
-      pub entry-count : 0 < count' v → Worklist b mode pred order done todo count'
-      entry-count h = record {
+      pub entry_count : 0 < count' v → Worklist b mode pred order done todo count'
+      entry_count h = record {
         distinct = s.distinct;
         low = s.low;
         begun = s.begun;
@@ -197,7 +197,7 @@ module _ (b : ℕ) (mode : ℕ → Mode) (pred : ℕ → List ℕ) where
       }
         where
           other : (x : ℕ) → mode x ≡ single → x ≢ v
-          other x e q = let z = s.once v entry-low (sym (ap mode q) ∙ e) in omega arith
+          other x e q = let z = s.once v entry_low (sym (ap mode q) ∙ e) in omega arith
 
           found : (x : ℕ) → x < b → count' x ≡ 0 → Dec (x ≡ v) → Mem x order ⊎ (mode x ≡ dead)
           found x l z (yes q) = let k = ap count' q in absurd (omega arith)
@@ -222,22 +222,22 @@ module _ (b : ℕ) (mode : ℕ → Mode) (pred : ℕ → List ℕ) where
       }
         where
           low : (x : ℕ) → (x ≡ v) ⊎ Mem x order → x < b
-          low x (inl e) = subst (λ (z : ℕ). z < b) (sym e) entry-low
+          low x (inl e) = subst (λ (z : ℕ). z < b) (sym e) entry_low
           low x (inr m) = s.low x m
 
           by : (m : Mode) → mode v ≡ m → Is (fired m (closure b mode pred) (pred v))
-          by dead e = let z = s.idle v entry-low e in absurd (omega arith)
+          by dead e = let z = s.idle v entry_low e in absurd (omega arith)
           by free e = refl
-          by single e = let a = (s.ahead v (Memᴰ.head refl)).1 in any-holds (closure b mode pred) a.2 (s.sound a.0 (s.begun a.0 a.1))
+          by single e = let a = (s.ahead v (Memᴰ.head refl)).1 in any_holds (closure b mode pred) a.2 (s.sound a.0 (s.begun a.0 a.1))
           by every e =
-              all-holds (closure b mode pred) (pred v)
-              (λ x m. s.sound x (s.begun x (member-mem x done (count-full (λ u. member u done) (pred v) full m))))
+              all_holds (closure b mode pred) (pred v)
+              (λ x m. s.sound x (s.begun x (member_mem x done (count_full (λ u. member u done) (pred v) full m))))
             where
-              full : length (pred v) ≤ countIn (λ u. member u done) (pred v)
-              full = let t = tally v entry-low e (yes refl) in omega arith
+              full : length (pred v) ≤ count_in (λ u. member u done) (pred v)
+              full = let t = tally v entry_low e (yes refl) in omega arith
 
           sound : (x : ℕ) → (x ≡ v) ⊎ Mem x order → Is (closure b mode pred x)
-          sound x (inl e) = subst (λ (z : ℕ). Is (closure b mode pred z)) (sym e) (closure-closed b mode pred v entry-low (by (mode v) refl))
+          sound x (inl e) = subst (λ (z : ℕ). Is (closure b mode pred z)) (sym e) (closure_closed b mode pred v entry_low (by (mode v) refl))
           sound x (inr m) = s.sound x m
 
           passed : (x : ℕ) → Dec (x ≡ v) → Mem x order ⊎ Mem x (v ∷ todo) → Mem x (v ∷ order) ⊎ Mem x todo
@@ -262,9 +262,9 @@ module _ (b : ℕ) (mode : ℕ → Mode) (pred : ℕ → List ℕ) where
 
   -- ---- the end: every row is followed
 
-  pub worklist-end : {order : List ℕ} {count : ℕ → ℕ} → Worklist b mode pred order order [] count → (v : ℕ) → Is (closure b mode pred v) → Mem v order
-  unfolding fired countIn
-  worklist-end {order} {count} s = closure-induct b mode pred (λ v. Mem v order) step
+  pub worklist_end : {order : List ℕ} {count : ℕ → ℕ} → Worklist b mode pred order order [] count → (v : ℕ) → Is (closure b mode pred v) → Mem v order
+  unfolding fired count_in
+  worklist_end {order} {count} s = closure_induct b mode pred (λ v. Mem v order) step
     where
       by : (t : Set) → ((v : ℕ) → Is (t v) → Mem v order) → (v : ℕ) → v < b → (m : Mode) → mode v ≡ m → Is (fired m t (pred v)) → Mem v order
       by t ih v l dead e q = clash q refl
@@ -275,7 +275,7 @@ module _ (b : ℕ) (mode : ℕ → Mode) (pred : ℕ → List ℕ) where
           go (inl m) = m
           go (inr m) = absurd (Memᴰ.not-nil m)
       by t ih v l every e q =
-          let c = count-all (λ u. member u order) (pred v) (λ u m. mem-member (ih u (all-at t q m))) in
+          let c = count_all (λ u. member u order) (pred v) (λ u m. mem_member (ih u (all_at t q m))) in
           let k = s.tally v l e in
           go (s.found v l (omega arith))
         where

@@ -8,6 +8,6 @@ pub record Alike (th other : Theory) : Type 0 where
   pub producers : th.producers ≡ other.producers
   pub kinds : (n : ℕ) → n < th.nodes → th.kind n ≡ other.kind n
   pub operands : (n : ℕ) → n < th.nodes → th.operand n ≡ other.operand n
-  pub leaf-lists : (n : ℕ) → n < th.nodes → th.leaves n ≡ other.leaves n
+  pub leaf_lists : (n : ℕ) → n < th.nodes → th.leaves n ≡ other.leaves n
   pub bodies : (p : ℕ) → p < th.producers → th.body p ≡ other.body p
-  pub head-lists : (p : ℕ) → p < th.producers → th.heads p ≡ other.heads p
+  pub head_lists : (p : ℕ) → p < th.producers → th.heads p ≡ other.heads p

@@ -3,9 +3,9 @@
 use Rattle.std.specs.Prelude.{◌≡◌, Bool, true, false, ◌&&◌, cond, List, [], ◌∷◌, ℕ}
 use Rattle.theory.specs.Sets.{Set, filled, members}
 use Rattle.theory.specs.Theory.{Theory, absorbed}
-use Rattle.theory.specs.Edges.{bodyCone}
-use Rattle.theory.specs.Founded.{hasCycle, missing}
-use Rattle.theory.specs.Words.{theoryOf, bit_at}
+use Rattle.theory.specs.Edges.{body_cone}
+use Rattle.theory.specs.Founded.{has_cycle, missing}
+use Rattle.theory.specs.Words.{theory_of, bit_at}
 
 -- the missing list, or refusal 12 with the nodes that may be its place
 pub data Outcome : Type 0 where
@@ -13,21 +13,21 @@ pub data Outcome : Type 0 where
   refused : ℕ → List ℕ → Outcome
 
 -- the absorbed nodes of the body cone
-unfoldable pub absorbedIn : Theory → List ℕ
-absorbedIn th = members th.nodes (λ n. bodyCone th n && absorbed (th.kind n))
+unfoldable pub absorbed_in : Theory → List ℕ
+absorbed_in th = members th.nodes (λ n. body_cone th n && absorbed (th.kind n))
 
-unfoldable pub outcome : Theory → (never atomNever : Set) → Outcome
-outcome th never atomNever = cond (filled (absorbedIn th)) (refused 12 (absorbedIn th)) (lists (members th.atoms (missing th never atomNever)))
+unfoldable pub outcome : Theory → (never atom_never : Set) → Outcome
+outcome th never atom_never = cond (filled (absorbed_in th)) (refused 12 (absorbed_in th)) (lists (members th.atoms (missing th never atom_never)))
 
 pub record Case : Type 0 where
   pub words : List ℕ
   pub never : List ℕ
-  pub atomNever : List ℕ
+  pub atom_never : List ℕ
   pub cycle : Bool
   pub result : Outcome
 
 unfoldable pub case : List ℕ → List ℕ → List ℕ → Bool → Outcome → Case
-case ws n a c r = record { words = ws; never = n; atomNever = a; cycle = c; result = r }
+case ws n a c r = record { words = ws; never = n; atom_never = a; cycle = c; result = r }
 
 -- the graphs, in the order of the words: header, nodes, producers, links
 abbrev pub c1 : List ℕ
@@ -77,7 +77,7 @@ table =
 
 -- the rules give the row's answers
 unfoldable pub Agrees : Case → Type 0
-Agrees c = (hasCycle (theoryOf c.words) ≡ c.cycle) × (outcome (theoryOf c.words) (bit_at c.never) (bit_at c.atomNever) ≡ c.result)
+Agrees c = (has_cycle (theory_of c.words) ≡ c.cycle) × (outcome (theory_of c.words) (bit_at c.never) (bit_at c.atom_never) ≡ c.result)
 
 -- every row of a table
 unfoldable pub Every : (Case → Type 0) → List Case → Type 0

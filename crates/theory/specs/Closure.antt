@@ -14,8 +14,8 @@ fired single s l = any s l
 fired every s l = all s l
 
 module _ (b : ℕ) (mode : ℕ → Mode) (pred : ℕ → List ℕ) where
-  unfoldable pub closeStep : Set → Set
-  closeStep s v = fired (mode v) s (pred v)
+  unfoldable pub close_step : Set → Set
+  close_step s v = fired (mode v) s (pred v)
 
   unfoldable pub closure : Set
-  closure v = has (least b closeStep) v
+  closure v = has (least b close_step) v

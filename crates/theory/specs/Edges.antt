@@ -1,6 +1,6 @@
 -- Vertices, edges and cones (document 01, "Preparation" and "Loop test"). Atom a is vertex a, and node n is vertex atoms + n.
 use Rattle.std.specs.Prelude.{Bool, true, false, ◌&&◌, ◌||◌, cond, List, [], ◌∷◌, ◌++◌, map, ℕ, zero, suc, ◌+◌, ◌-◌, eqb, ltb}
-use Rattle.theory.specs.Sets.{Set, member, filled, anyBelow}
+use Rattle.theory.specs.Sets.{Set, member, filled, any_below}
 use Rattle.theory.specs.Least.{has, least}
 use Rattle.theory.specs.Theory.{Theory, Kind, False, Atom, And, Or, Opaque, Absorbed, joins}
 
@@ -14,14 +14,14 @@ module _ (th : Theory) where
   vertices = th.atoms + th.nodes
 
   -- body to each head: the body as often as a is among the heads, and nothing for a fact
-  unfoldable pub bodyEntries : ℕ → ℕ → List ℕ → List ℕ
-  bodyEntries a zero heads = []
-  bodyEntries a (suc n) heads = occurrences (th.atoms + n) a heads
+  unfoldable pub body_entries : ℕ → ℕ → List ℕ → List ℕ
+  body_entries a zero heads = []
+  body_entries a (suc n) heads = occurrences (th.atoms + n) a heads
 
   -- the bodies of the first p producers with head a
-  unfoldable pub bodiesBelow : ℕ → ℕ → List ℕ
-  bodiesBelow a zero = []
-  bodiesBelow a (suc p) = bodiesBelow a p ++ bodyEntries a (th.body p) (th.heads p)
+  unfoldable pub bodies_below : ℕ → ℕ → List ℕ
+  bodies_below a zero = []
+  bodies_below a (suc p) = bodies_below a p ++ body_entries a (th.body p) (th.heads p)
 
   -- atom to each Atom node naming it; leaf to its And or Or
   unfoldable pub inputs : Kind → ℕ → List ℕ
@@ -32,38 +32,38 @@ module _ (th : Theory) where
   inputs Opaque n = []
   inputs Absorbed n = []
 
-  unfoldable pub predsBy : Bool → Bool → ℕ → List ℕ
-  predsBy true c v = bodiesBelow v th.producers
-  predsBy false true v = inputs (th.kind (v - th.atoms)) (v - th.atoms)
-  predsBy false false v = []
+  unfoldable pub preds_by : Bool → Bool → ℕ → List ℕ
+  preds_by true c v = bodies_below v th.producers
+  preds_by false true v = inputs (th.kind (v - th.atoms)) (v - th.atoms)
+  preds_by false false v = []
 
   -- the vertices from which an edge leads to v, repeats kept; the vertices are all atoms and the nodes in c
   unfoldable pub preds : Set → ℕ → List ℕ
-  preds c v = predsBy (ltb v th.atoms) (ltb (v - th.atoms) th.nodes && c (v - th.atoms)) v
+  preds c v = preds_by (ltb v th.atoms) (ltb (v - th.atoms) th.nodes && c (v - th.atoms)) v
 
   -- n is the body of a wanted producer
-  unfoldable pub isBody : Set → Set
-  isBody wanted n = anyBelow th.producers (λ p. eqb (th.body p) (suc n) && wanted p)
+  unfoldable pub is_body : Set → Set
+  is_body wanted n = any_below th.producers (λ p. eqb (th.body p) (suc n) && wanted p)
 
   -- n is a leaf of an And or Or in s
-  unfoldable pub isLeaf : Set → Set
-  isLeaf s n = anyBelow th.nodes (λ m. s m && joins (th.kind m) && member n (th.leaves m))
+  unfoldable pub is_leaf : Set → Set
+  is_leaf s n = any_below th.nodes (λ m. s m && joins (th.kind m) && member n (th.leaves m))
 
   -- a cone: the bodies of the wanted producers, and the leaves of every And and Or reached
-  unfoldable pub coneStep : Set → Set → Set
-  coneStep wanted s n = isBody wanted n || isLeaf s n
+  unfoldable pub cone_step : Set → Set → Set
+  cone_step wanted s n = is_body wanted n || is_leaf s n
 
   unfoldable pub cone : Set → Set
-  cone wanted n = has (least th.nodes (coneStep wanted)) n
+  cone wanted n = has (least th.nodes (cone_step wanted)) n
 
   -- document 01's first cone: from the producers with at least one head
-  unfoldable pub bodyCone : Set
-  bodyCone = cone (λ p. filled (th.heads p))
+  unfoldable pub body_cone : Set
+  body_cone = cone (λ p. filled (th.heads p))
 
   -- the vertices of preparation: all atoms and the body cone
-  unfoldable pub inGraph : Set
-  inGraph v = ltb v th.atoms || bodyCone (v - th.atoms)
+  unfoldable pub in_graph : Set
+  in_graph v = ltb v th.atoms || body_cone (v - th.atoms)
 
   -- the edges of preparation
-  abbrev pub conePreds : ℕ → List ℕ
-  conePreds v = preds bodyCone v
+  abbrev pub cone_preds : ℕ → List ℕ
+  cone_preds v = preds body_cone v

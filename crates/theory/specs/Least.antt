@@ -8,15 +8,15 @@ unfoldable pub has : List Bool → Set
 has l v = get_or l v false
 
 -- the table of a set at i, i + 1, .. i + n - 1
-unfoldable pub tableFrom : ℕ → ℕ → Set → List Bool
-tableFrom i zero s = []
-tableFrom i (suc n) s = s i ∷ tableFrom (suc i) n s
+unfoldable pub table_from : ℕ → ℕ → Set → List Bool
+table_from i zero s = []
+table_from i (suc n) s = s i ∷ table_from (suc i) n s
 
 module _ (bound : ℕ) (step : Set → Set) where
   -- k rounds
   unfoldable pub grow : ℕ → List Bool
   grow zero = []
-  grow (suc k) = tableFrom 0 bound (step (has (grow k)))
+  grow (suc k) = table_from 0 bound (step (has (grow k)))
 
   unfoldable pub least : List Bool
   least = grow bound

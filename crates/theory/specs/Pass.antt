@@ -1,7 +1,7 @@
 -- The pass as a closure over vertices: what each vertex waits for at the start (the Rust: `Initial`), given the cuts and a cone of nodes that the pass
 -- starts from; a node outside the cone is never true in it. That the closure is the founded set: proofs/PassLaws.
 use Rattle.std.specs.Prelude.{◌≡◌, Bool, true, false, not, ◌&&◌, cond, ℕ, suc, ◌-◌, ◌<◌, eqb, ltb}
-use Rattle.theory.specs.Sets.{Is, Set, everyone, Mem, member, anyBelow}
+use Rattle.theory.specs.Sets.{Is, Set, everyone, Mem, member, any_below}
 use Rattle.theory.specs.Theory.{Theory, Kind, False, Atom, And, Or, Opaque, Absorbed, joins}
 use Rattle.theory.specs.Edges.{vertices, preds}
 use Rattle.theory.specs.Founded.{cyclic}
@@ -12,34 +12,34 @@ live true m = m
 live false m = dead
 
 -- an uncut node, by its kind and whether its atom is cyclic and cut
-unfoldable pub kindMode : Kind → (cyclic cut : Bool) → Mode
-kindMode False m c = dead
-kindMode Atom true c = single
-kindMode Atom false true = dead
-kindMode Atom false false = free
-kindMode And m c = every
-kindMode Or m c = single
-kindMode Opaque m c = free
-kindMode Absorbed m c = dead
+unfoldable pub kind_mode : Kind → (cyclic cut : Bool) → Mode
+kind_mode False m c = dead
+kind_mode Atom true c = single
+kind_mode Atom false true = dead
+kind_mode Atom false false = free
+kind_mode And m c = every
+kind_mode Or m c = single
+kind_mode Opaque m c = free
+kind_mode Absorbed m c = dead
 
 module _ (th : Theory) where
   -- a is the head of a fact
   unfoldable pub stated : Set
-  stated a = anyBelow th.producers (λ p. eqb (th.body p) 0 && member a (th.heads p))
+  stated a = any_below th.producers (λ p. eqb (th.body p) 0 && member a (th.heads p))
 
-  module _ (cone never atomNever : Set) where
-    unfoldable pub atomMode : ℕ → Mode
-    atomMode a = live (cyclic th a && not (atomNever a)) (cond (stated a) free single)
+  module _ (cone never atom_never : Set) where
+    unfoldable pub atom_mode : ℕ → Mode
+    atom_mode a = live (cyclic th a && not (atom_never a)) (cond (stated a) free single)
 
-    unfoldable pub nodeMode : ℕ → Mode
-    nodeMode n = live (ltb n th.nodes && cone n && not (never n)) (kindMode (th.kind n) (cyclic th (th.operand n)) (atomNever (th.operand n)))
+    unfoldable pub node_mode : ℕ → Mode
+    node_mode n = live (ltb n th.nodes && cone n && not (never n)) (kind_mode (th.kind n) (cyclic th (th.operand n)) (atom_never (th.operand n)))
 
-    unfoldable pub passMode : ℕ → Mode
-    passMode v = cond (ltb v th.atoms) (atomMode v) (nodeMode (v - th.atoms))
+    unfoldable pub pass_mode : ℕ → Mode
+    pass_mode v = cond (ltb v th.atoms) (atom_mode v) (node_mode (v - th.atoms))
 
     -- what the pass finds
     abbrev pub passed : Set
-    passed v = closure (vertices th) passMode (preds th everyone) v
+    passed v = closure (vertices th) pass_mode (preds th everyone) v
 
     -- the cone holds whatever can come to matter: the bodies of producers with a cyclic head, and leaves of what it holds
     pub record Enough : Type 0 where

@@ -29,42 +29,42 @@ unfoldable pub flat_map : (ℕ → List ℕ) → List ℕ → List ℕ
 flat_map f [] = []
 flat_map f (x ∷ l) = f x ++ flat_map f l
 
-unfoldable pub bodyKeys : ℕ → List ℕ
-bodyKeys zero = []
-bodyKeys (suc n) = n ∷ []
+unfoldable pub body_keys : ℕ → List ℕ
+body_keys zero = []
+body_keys (suc n) = n ∷ []
 
 module _ (th : Theory) where
-  unfoldable pub atomKeys : Kind → ℕ → List ℕ
-  atomKeys False n = []
-  atomKeys Atom n = th.operand n ∷ []
-  atomKeys And n = []
-  atomKeys Or n = []
-  atomKeys Opaque n = []
-  atomKeys Absorbed n = []
+  unfoldable pub atom_keys : Kind → ℕ → List ℕ
+  atom_keys False n = []
+  atom_keys Atom n = th.operand n ∷ []
+  atom_keys And n = []
+  atom_keys Or n = []
+  atom_keys Opaque n = []
+  atom_keys Absorbed n = []
 
-  unfoldable pub leafKeys : Kind → ℕ → List ℕ
-  leafKeys k n = cond (joins k) (th.leaves n) []
+  unfoldable pub leaf_keys : Kind → ℕ → List ℕ
+  leaf_keys k n = cond (joins k) (th.leaves n) []
 
   -- the tables: nodes per atom, parents per node, producers per head, producers per body
-  unfoldable pub atomNodes : List Edge
-  atomNodes = stream (λ n. atomKeys (th.kind n) n) 0 th.nodes
+  unfoldable pub atom_nodes : List Edge
+  atom_nodes = stream (λ n. atom_keys (th.kind n) n) 0 th.nodes
 
   unfoldable pub parents : List Edge
-  parents = stream (λ n. leafKeys (th.kind n) n) 0 th.nodes
+  parents = stream (λ n. leaf_keys (th.kind n) n) 0 th.nodes
 
-  unfoldable pub byHead : List Edge
-  byHead = stream th.heads 0 th.producers
+  unfoldable pub by_head : List Edge
+  by_head = stream th.heads 0 th.producers
 
-  unfoldable pub byBody : List Edge
-  byBody = stream (λ p. bodyKeys (th.body p)) 0 th.producers
+  unfoldable pub by_body : List Edge
+  by_body = stream (λ p. body_keys (th.body p)) 0 th.producers
 
   -- nodes as vertices
   abbrev pub shifted : List ℕ → List ℕ
   shifted l = map (λ n. th.atoms + n) l
 
   -- the vertices to which an edge leads from node m, and from vertex u, repeats kept
-  unfoldable pub nodeSuccs : ℕ → List ℕ
-  nodeSuccs m = shifted (entries m parents) ++ flat_map th.heads (entries m byBody)
+  unfoldable pub node_succs : ℕ → List ℕ
+  node_succs m = shifted (entries m parents) ++ flat_map th.heads (entries m by_body)
 
   unfoldable pub succs : ℕ → List ℕ
-  succs u = cond (ltb u th.atoms) (shifted (entries u atomNodes)) (nodeSuccs (u - th.atoms))
+  succs u = cond (ltb u th.atoms) (shifted (entries u atom_nodes)) (node_succs (u - th.atoms))

@@ -15,8 +15,8 @@ module _ (b : ℕ) (pred : ℕ → List ℕ) where
   -- the first walk: the stack and the vertices finished, the last one first; rest v: the predecessors of v that are still to be looked at
   pub record Searching (graph : Set) (stack fin : List ℕ) (mark : ℕ → ℕ) (rest : ℕ → List ℕ) : Type 0 where
     pub descent : Descent pred (λ v w. Mem w (rest v)) stack fin
-    pub stack-once : Distinct stack
-    pub fin-once : Distinct fin
+    pub stack_once : Distinct stack
+    pub fin_once : Distinct fin
     pub apart : (v : ℕ) → Mem v stack → Mem v fin → ⊥
     pub low : (v : ℕ) → Mem v stack ⊎ Mem v fin → v < b
     pub inside : (v : ℕ) → Mem v stack ⊎ Mem v fin → Is (graph v)

@@ -37,9 +37,9 @@ filled [] = false
 filled (x ∷ l) = true
 
 -- some number below n is in the set
-unfoldable pub anyBelow : ℕ → Set → Bool
-anyBelow zero s = false
-anyBelow (suc n) s = s n || anyBelow n s
+unfoldable pub any_below : ℕ → Set → Bool
+any_below zero s = false
+any_below (suc n) s = s n || any_below n s
 
 -- the members of the set below n, ascending
 unfoldable pub members : ℕ → Set → List ℕ
@@ -47,6 +47,6 @@ members zero s = []
 members (suc n) s = cond (s n) (members n s ++ (n ∷ [])) (members n s)
 
 -- f 0 + .. + f (n - 1)
-unfoldable pub sumBelow : ℕ → (ℕ → ℕ) → ℕ
-sumBelow zero f = 0
-sumBelow (suc n) f = f n + sumBelow n f
+unfoldable pub sum_below : ℕ → (ℕ → ℕ) → ℕ
+sum_below zero f = 0
+sum_below (suc n) f = f n + sum_below n f

@@ -13,8 +13,8 @@ waits single n = 1
 waits every n = n
 
 -- how many it waits for before the facts and the nodes are looked at: an atom that is cyclic and not cut for one, every other vertex for nothing
-unfoldable pub firstCount : (cyclic cut : Set) → ℕ → ℕ
-firstCount cyclic cut v = cond (cyclic v && not (cut v)) 1 0
+unfoldable pub first_count : (cyclic cut : Set) → ℕ → ℕ
+first_count cyclic cut v = cond (cyclic v && not (cut v)) 1 0
 
 module _ (b : ℕ) (mode : ℕ → Mode) (pred : ℕ → List ℕ) where
   -- v waits for what it should, and is found if that is nothing

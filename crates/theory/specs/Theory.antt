@@ -39,6 +39,6 @@ pub record Theory : Type 0 where
 -- what the graph check settles of every accepted graph (rows 4, 5, 7 and 8)
 pub record WellFormed (th : Theory) : Type 0 where
   pub operand_low : (n : ℕ) → n < th.nodes → th.kind n ≡ Atom → th.operand n < th.atoms
-  pub leaf-low : (n m : ℕ) → n < th.nodes → Mem m (th.leaves n) → m < n
-  pub head-low : (p a : ℕ) → p < th.producers → Mem a (th.heads p) → a < th.atoms
-  pub body-low : (p n : ℕ) → p < th.producers → th.body p ≡ suc n → n < th.nodes
+  pub leaf_low : (n m : ℕ) → n < th.nodes → Mem m (th.leaves n) → m < n
+  pub head_low : (p a : ℕ) → p < th.producers → Mem a (th.heads p) → a < th.atoms
+  pub body_low : (p n : ℕ) → p < th.producers → th.body p ≡ suc n → n < th.nodes

@@ -15,13 +15,13 @@ holds Absorbed atom t leaves = false
 
 module _ (th : Theory) (never atom : Set) where
   -- in k rounds
-  unfoldable pub truthIn : ℕ → Set
-  truthIn zero n = false
-  truthIn (suc k) n = not (never n) && holds (th.kind n) (atom (th.operand n)) (λ m. truthIn k m) (th.leaves n)
+  unfoldable pub truth_in : ℕ → Set
+  truth_in zero n = false
+  truth_in (suc k) n = not (never n) && holds (th.kind n) (atom (th.operand n)) (λ m. truth_in k m) (th.leaves n)
 
   -- a leaf is below its own node, so n + 1 rounds are enough (proofs/TruthLaws, `truth-step`)
   unfoldable pub truth : Set
-  truth n = truthIn (suc n) n
+  truth n = truth_in (suc n) n
 
   -- a producer fires if it is a fact or its body is true
   unfoldable pub fires : ℕ → Bool

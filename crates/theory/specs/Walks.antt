@@ -9,8 +9,8 @@ pub data Walk (pred : ℕ → List ℕ) (u : ℕ) : ℕ → Type 0 where
   next : {w v : ℕ} → Walk pred u w → Mem w (pred v) → Walk pred u v
 
 -- the vertices below a bound that a walk from u ends at, computed
-unfoldable pub reachStep : (ℕ → List ℕ) → ℕ → Set → Set
-reachStep pred u s v = any (λ w. eqb u w || s w) (pred v)
+unfoldable pub reach_step : (ℕ → List ℕ) → ℕ → Set → Set
+reach_step pred u s v = any (λ w. eqb u w || s w) (pred v)
 
 unfoldable pub reached : ℕ → (ℕ → List ℕ) → ℕ → List Bool
-reached bound pred u = least bound (reachStep pred u)
+reached bound pred u = least bound (reach_step pred u)

@@ -15,13 +15,13 @@ kind_of (suc (suc (suc (suc (suc (suc zero)))))) = Opaque
 kind_of (suc (suc (suc (suc (suc (suc (suc n))))))) = Absorbed
 
 -- where node n's record begins
-abbrev pub nodeAt : ℕ → ℕ
-nodeAt n = 5 + 3 * n
+abbrev pub node_at : ℕ → ℕ
+node_at n = 5 + 3 * n
 
 module _ (ws : List ℕ) where
   -- where producer p's record and link l's record begin; links are numbered from 1
-  abbrev pub producerAt : ℕ → ℕ
-  producerAt p = 5 + 3 * get_or ws 2 0 + 2 * p
+  abbrev pub producer_at : ℕ → ℕ
+  producer_at p = 5 + 3 * get_or ws 2 0 + 2 * p
 
   abbrev pub link_at : ℕ → ℕ
   link_at l = 5 + 3 * get_or ws 2 0 + 2 * get_or ws 3 0 + 2 * l - 2
@@ -33,24 +33,24 @@ module _ (ws : List ℕ) where
   next_of l = get_or ws (link_at l + 1) 0
 
   -- the values along the chain that begins at a link, at most as many as the fuel; link 0 ends a chain
-  unfoldable pub chainIn : ℕ → ℕ → List ℕ
-  chainIn zero l = []
-  chainIn (suc fuel) l = let more = value_of l ∷ chainIn fuel (next_of l) in cond (eqb l 0) [] more
+  unfoldable pub chain_in : ℕ → ℕ → List ℕ
+  chain_in zero l = []
+  chain_in (suc fuel) l = let more = value_of l ∷ chain_in fuel (next_of l) in cond (eqb l 0) [] more
 
   -- a chain that meets no link twice has at most K entries
   unfoldable pub chain : ℕ → List ℕ
-  chain l = chainIn (get_or ws 4 0) l
+  chain l = chain_in (get_or ws 4 0) l
 
-  unfoldable pub theoryOf : Theory
-  theoryOf = record {
+  unfoldable pub theory_of : Theory
+  theory_of = record {
     atoms = get_or ws 1 0;
     nodes = get_or ws 2 0;
     producers = get_or ws 3 0;
-    kind = λ n. kind_of (get_or ws (nodeAt n) 0);
-    operand = λ n. get_or ws (nodeAt n + 1) 0;
-    leaves = λ n. chain (get_or ws (nodeAt n + 2) 0);
-    body = λ p. get_or ws (producerAt p) 0;
-    heads = λ p. chain (get_or ws (producerAt p + 1) 0);
+    kind = λ n. kind_of (get_or ws (node_at n) 0);
+    operand = λ n. get_or ws (node_at n + 1) 0;
+    leaves = λ n. chain (get_or ws (node_at n + 2) 0);
+    body = λ p. get_or ws (producer_at p) 0;
+    heads = λ p. chain (get_or ws (producer_at p + 1) 0);
   }
 
 -- bit i of a mask of 64-bit words: bit i % 64, lowest first, of word i / 64; past the end of the mask it is not set

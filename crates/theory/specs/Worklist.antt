@@ -1,7 +1,7 @@
 -- What a worklist with a count a vertex keeps while it computes a closure, over lists and functions.
 use Rattle.std.specs.Prelude.{◌≡◌, ◌⊎◌, ◌↔◌, List, ℕ, ◌+◌, ◌≤◌, ◌<◌, length}
 use Rattle.theory.specs.Sets.{Is, Mem, member}
-use Rattle.theory.specs.Counts.{countIn, occ, Distinct}
+use Rattle.theory.specs.Counts.{count_in, occ, Distinct}
 use Rattle.theory.specs.Closure.{Mode, dead, free, single, every, closure}
 
 module _ (b : ℕ) (mode : ℕ → Mode) (pred : ℕ → List ℕ) where
@@ -9,10 +9,10 @@ module _ (b : ℕ) (mode : ℕ → Mode) (pred : ℕ → List ℕ) where
   pub record Started (order : List ℕ) (count : ℕ → ℕ) : Type 0 where
     pub distinct : Distinct order
     pub low : (v : ℕ) → Mem v order → v < b
-    pub dead-count : (v : ℕ) → v < b → mode v ≡ dead → count v ≡ 0
-    pub free-count : (v : ℕ) → v < b → mode v ≡ free → count v ≡ 0
-    pub single-count : (v : ℕ) → v < b → mode v ≡ single → count v ≡ 1
-    pub every-count : (v : ℕ) → v < b → mode v ≡ every → count v ≡ length (pred v)
+    pub dead_count : (v : ℕ) → v < b → mode v ≡ dead → count v ≡ 0
+    pub free_count : (v : ℕ) → v < b → mode v ≡ free → count v ≡ 0
+    pub single_count : (v : ℕ) → v < b → mode v ≡ single → count v ≡ 1
+    pub every_count : (v : ℕ) → v < b → mode v ≡ every → count v ≡ length (pred v)
     pub first : (v : ℕ) → v < b → Mem v order ↔ ((count v ≡ 0) × (mode v ≡ dead → ⊥))
 
   -- order: the vertices found so far, the last one first. done: those of them whose rows have been begun. todo: what is left of the last such
@@ -26,7 +26,7 @@ module _ (b : ℕ) (mode : ℕ → Mode) (pred : ℕ → List ℕ) where
     pub starts : (v : ℕ) → v < b → mode v ≡ free → Mem v order
     pub once : (v : ℕ) → v < b → mode v ≡ single → count v ≤ 1
     pub passed : (u v : ℕ) → v < b → mode v ≡ single → Mem u (pred v) → Mem u done → Mem v order ⊎ Mem v todo
-    pub tally : (v : ℕ) → v < b → mode v ≡ every → count v + countIn (λ u. member u done) (pred v) ≡ length (pred v) + occ v todo
+    pub tally : (v : ℕ) → v < b → mode v ≡ every → count v + count_in (λ u. member u done) (pred v) ≡ length (pred v) + occ v todo
     pub idle : (v : ℕ) → v < b → mode v ≡ dead → count v ≡ 0
     pub found : (v : ℕ) → v < b → count v ≡ 0 → Mem v order ⊎ (mode v ≡ dead)
     pub spent : (v : ℕ) → Mem v order → count v ≡ 0

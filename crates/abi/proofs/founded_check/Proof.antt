@@ -2,7 +2,7 @@ use Prim.Native.Nat.{◌<◌}
 use native.Mathlib.Omega.{arith}
 use lib.ListN.{get_or}
 use Rattle.theory.specs.Accepted.{edition1}
-use Rattle.refusals.proofs.PlaceLaws.{graph-place}
+use Rattle.refusals.proofs.PlaceLaws.{graph_place}
 use borrow.Author.Rules.{rules}
 use Rattle.abi.proofs.founded_check.Statement.{statement}
 use Rattle.abi.proofs.founded_check.Tie as tie
@@ -16,7 +16,7 @@ checked-code-requires c κs =
     let n : get_or ws 2 0 < 65536 = omega (arith, c.before.shared-slice-known.given 2) in
     let p : get_or ws 3 0 < 65536 = omega (arith, c.before.shared-slice-known.given 3) in
     let k : get_or ws 4 0 < 65536 = omega (arith, c.before.shared-slice-known.given 4) in
-    rw c.check.ensures (graph-place (omega arith) edition1 ws n p k)
+    rw c.check.ensures (graph_place (omega arith) edition1 ws n p k)
 
 returns : tie.Need-returns
 returns c = rw (← c.before.check.ensures) c.checked-code.ensures

@@ -1,6 +1,6 @@
 use native.Mathlib.Omega.{arith}
 use lib.ListN.{length-take}
-use Rattle.adjacency.proofs.TableLaws.{start, to-count, to-sum, to_fill, filled}
+use Rattle.adjacency.proofs.TableLaws.{start, to_count, to_sum, to_fill, filled}
 use borrow.Author.Rules.{rules}
 use Rattle.adjacency.proofs.build.Statement.{statement}
 use Rattle.adjacency.proofs.build.Tie as tie
@@ -34,7 +34,7 @@ place-all-requires c κs =
     let c-rows-in = p1.rows_in in
     let c-pre = p1.before.before.before.requires in
     let c-args = p1.before.before.before.args in
-    (c-pre.0, to-count (start c-pre.0 (omega arith) (omega arith) c-args.table c-rows-in.ensures c-clear.ensures c-pre.1))
+    (c-pre.0, to_count (start c-pre.0 (omega arith) (omega arith) c-args.table c-rows-in.ensures c-clear.ensures c-pre.1))
 
 sum-requires : tie.Need-sum-requires
 sum-requires c κs =
@@ -45,7 +45,7 @@ sum-requires c κs =
     let p2 = p1.before.before.before.before.before in
     let c-pre = p2.requires in
     let c-args = p2.args in
-    to-sum (start c-pre.0 (omega arith) (omega arith) c-args.table c-rows-in.ensures c-clear.ensures c-pre.1) c-place-all.ensures
+    to_sum (start c-pre.0 (omega arith) (omega arith) c-args.table c-rows-in.ensures c-clear.ensures c-pre.1) c-place-all.ensures
 
 place-all-requires-2 : tie.Need-place-all-requires-2
 place-all-requires-2 c κs =

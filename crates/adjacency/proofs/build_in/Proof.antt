@@ -2,7 +2,7 @@ use mathlib.Core.Path.{◌≡◌}
 use native.Mathlib.Omega.{arith}
 use Prim.Native.Nat.{◌-◌}
 use lib.ListN.{length, length-take, length-drop}
-use Rattle.adjacency.proofs.KeyLaws.{part-fits}
+use Rattle.adjacency.proofs.KeyLaws.{part_fits}
 use Rattle.adjacency.proofs.TableLaws.{stood}
 use borrow.Author.Rules.{rules}
 use Rattle.adjacency.proofs.build_in.Statement.{statement}
@@ -20,7 +20,7 @@ mul-build c =
     let p1 = c.before.before.before.before in
     let c-pre = p1.requires in
     let c-args = p1.args in
-    let f = part-fits c-pre.1 c-args.table in let e = c-base.ensures in omega arith
+    let f = part_fits c-pre.1 c-args.table in let e = c-base.ensures in omega arith
 
 sub-build : tie.Need-overflow-sub-build
 sub-build c =
@@ -29,7 +29,7 @@ sub-build c =
     let p1 = c.before.before.before.before in
     let c-pre = p1.requires in
     let c-args = p1.args in
-    let f = part-fits c-pre.1 c-args.table in let e = c-base.ensures in let g = c-next.ensures in omega arith
+    let f = part_fits c-pre.1 c-args.table in let e = c-base.ensures in let g = c-next.ensures in omega arith
 
 part-build-start : tie.Need-slice-bounds-build-start
 part-build-start c =
@@ -38,7 +38,7 @@ part-build-start c =
     let p1 = c.before.before.before.before in
     let c-pre = p1.requires in
     let c-args = p1.args in
-    let f = part-fits c-pre.1 c-args.table in let e = c-base.ensures in let g = c-next.ensures in omega arith
+    let f = part_fits c-pre.1 c-args.table in let e = c-base.ensures in let g = c-next.ensures in omega arith
 
 part-build-end : tie.Need-slice-bounds-build-end
 part-build-end c =
@@ -47,7 +47,7 @@ part-build-end c =
     let p1 = c.before.before.before.before in
     let c-pre = p1.requires in
     let c-args = p1.args in
-    let f = part-fits c-pre.1 c-args.table in let e = c-base.ensures in let g = c-next.ensures in omega arith
+    let f = part_fits c-pre.1 c-args.table in let e = c-base.ensures in let g = c-next.ensures in omega arith
 
 build-requires : tie.Need-build-requires
 build-requires c κs =
@@ -56,7 +56,7 @@ build-requires c κs =
     let p1 = c.before.before.before.before.before in
     let c-pre = p1.requires in
     let c-args = p1.args in
-    let f = part-fits c-pre.1 c-args.table in let e = c-base.ensures in let g = c-next.ensures in (c-pre.0, simp (length-take, length-drop) (omega arith))
+    let f = part_fits c-pre.1 c-args.table in let e = c-base.ensures in let g = c-next.ensures in (c-pre.0, simp (length-take, length-drop) (omega arith))
 
 same_length : tie.Need-same-length
 same_length c = search rules
@@ -71,7 +71,7 @@ returns c =
     let c-args = p2.args in
     let c-pre = p2.requires in
     let l : length c-build.new.1.0 ≡ c-next.result - c-base.result = search rules in
-    stood c-args.work.now c-build.new.1.0 c-base.ensures c-next.ensures (part-fits c-pre.1 c-args.table) l c-build.ensures
+    stood c-args.work.now c-build.new.1.0 c-base.ensures c-next.ensures (part_fits c-pre.1 c-args.table) l c-build.ensures
 
 pub build-in-spec : {M : Type 1} → statement M
 build-in-spec =

@@ -1,21 +1,21 @@
 use mathlib.Core.Path.{sym, ◌∙◌, ap}
-use Rattle.theory.specs.Words.{theoryOf}
+use Rattle.theory.specs.Words.{theory_of}
 use Rattle.theory.specs.Rows.{tagged}
-use Rattle.theory.proofs.DriveLaws.{drives-none}
+use Rattle.theory.proofs.DriveLaws.{drives_none}
 use Rattle.adjacency.specs.Building.{Building}
-use Rattle.adjacency.proofs.KeyLaws.{atom-keys, atom-no-keys}
+use Rattle.adjacency.proofs.KeyLaws.{atom_keys_lem, atom_no_keys}
 use borrow.Author.Rules.{rules}
 use Rattle.adjacency.proofs.place_atom.Statement.{statement}
 use Rattle.adjacency.proofs.place_atom.Tie as tie
 
 kind-requires : tie.Need-kind-requires
-unfolding theoryOf
+unfolding theory_of
 kind-requires c κs =
     let c-pre = c.before.before.requires in
     record { size = c-pre.0.0.size; below = c-pre.0.1 }
 
 operand-requires : tie.Need-operand-requires
-unfolding theoryOf
+unfolding theory_of
 operand-requires c κs =
     let p1 = c.before.before.before.before.before in
     let c-pre = p1.requires in
@@ -29,7 +29,7 @@ place-requires c κs =
     let p1 = c.before.before.before.before.before.before in
     let c-args = p1.args in
     let c-pre = p1.requires in
-    rw c-operand.ensures (rw (ap (tagged c-args.n) (atom-keys c-args.graph.now c-args.n (sym c-kind.ensures ∙ c-if1.true))) at c-pre.1)
+    rw c-operand.ensures (rw (ap (tagged c-args.n) (atom_keys_lem c-args.graph.now c-args.n (sym c-kind.ensures ∙ c-if1.true))) at c-pre.1)
 
 same_length : tie.Need-same-length
 same_length c = search rules
@@ -43,7 +43,7 @@ returns c =
     let c-kind = p1.before.kind in
     let p2 = p1.before.before.before.before in
     let c-args = p2.args in
-    rw (ap (tagged c-args.n) (atom-keys c-args.graph.now c-args.n (sym c-kind.ensures ∙ c-if1.true))) (rw c-operand.ensures at c-place.ensures)
+    rw (ap (tagged c-args.n) (atom_keys_lem c-args.graph.now c-args.n (sym c-kind.ensures ∙ c-if1.true))) (rw c-operand.ensures at c-place.ensures)
 
 returns-2 : tie.Need-returns-2
 returns-2 c =
@@ -51,7 +51,7 @@ returns-2 c =
     let c-kind = c.before.kind in
     let p1 = c.before.before.before.before in
     let c-args = p1.args in
-    rw (ap (tagged c-args.n) (atom-no-keys c-args.graph.now c-args.n (λ e. c-if1.false (c-kind.ensures ∙ e)))) (drives-none (Building 65536 c-args.filling c-args.rows))
+    rw (ap (tagged c-args.n) (atom_no_keys c-args.graph.now c-args.n (λ e. c-if1.false (c-kind.ensures ∙ e)))) (drives_none (Building 65536 c-args.filling c-args.rows))
 
 pub place-atom-spec : {M : Type 1} → statement M
 place-atom-spec =

@@ -6,9 +6,9 @@ use Rattle.theory.specs.Words.{chain}
 use Rattle.theory.specs.Links.{MeetsOnce}
 use Rattle.theory.specs.Rows.{edge, tagged}
 use Rattle.theory.specs.Drive.{Drives}
-use Rattle.theory.proofs.ChainLaws.{once-next, chain-end, chain-falls}
-use Rattle.theory.proofs.DriveLaws.{drives-none, turn-next, turn_more, turn-done, chain-turn}
-use Rattle.graph.proofs.DecodeLaws.{value-of, next-of, link-in}
+use Rattle.theory.proofs.ChainLaws.{once_next, chain_end, chain_falls}
+use Rattle.theory.proofs.DriveLaws.{drives_none, turn_next, turn_more, turn_done, chain_turn}
+use Rattle.graph.proofs.DecodeLaws.{value_of_lem, next_of_lem, link_in}
 use Rattle.adjacency.specs.Building.{Building}
 use borrow.Author.Rules.{rules}
 use Rattle.adjacency.proofs.place_chain.Statement.{statement}
@@ -29,7 +29,7 @@ loop-holds : tie.Need-loop-init invariant-loop decreases-loop
 loop-holds c =
     let c-pre = c.before.before.before.requires in
     let c-args = c.before.before.before.args in
-    (c-pre.0.1, drives-none (Building 65536 c-args.filling c-args.rows))
+    (c-pre.0.1, drives_none (Building 65536 c-args.filling c-args.rows))
 
 value-requires : tie.Need-value-requires invariant-loop decreases-loop
 value-requires c κs =
@@ -37,7 +37,7 @@ value-requires c κs =
     let c-links-from = c.before.before.links-from in
     let p1 = c.before.before.before.before.before in
     let c-pre = p1.requires in
-    link-in c-links-from.ensures c-pre.0.0 c-loop.invariant.0 (omega arith)
+    link_in c-links-from.ensures c-pre.0.0 c-loop.invariant.0 (omega arith)
 
 next-requires : tie.Need-next-requires invariant-loop decreases-loop
 next-requires c κs =
@@ -45,7 +45,7 @@ next-requires c κs =
     let c-links-from = c.before.before.before.links-from in
     let p1 = c.before.before.before.before.before.before in
     let c-pre = p1.requires in
-    link-in c-links-from.ensures c-pre.0.0 c-loop.invariant.0 (omega arith)
+    link_in c-links-from.ensures c-pre.0.0 c-loop.invariant.0 (omega arith)
 
 place-requires : tie.Need-place-requires invariant-loop decreases-loop
 place-requires c κs =
@@ -56,7 +56,7 @@ place-requires c κs =
     let p2 = p1.before.before.before.before in
     let c-args = p2.args in
     let c-pre = p2.requires in
-    turn-next (Building 65536 c-args.filling c-args.rows) (tagged c-args.item) (λ r. edge r c-args.item ∷ []) (λ r l. refl) c-loop.invariant.1 (chain-turn c-args.graph.now c-loop.invariant.0 (omega arith) (value-of c-links-from.ensures c-loop.l c-value.ensures (omega arith)) refl) c-pre.1
+    turn_next (Building 65536 c-args.filling c-args.rows) (tagged c-args.item) (λ r. edge r c-args.item ∷ []) (λ r l. refl) c-loop.invariant.1 (chain_turn c-args.graph.now c-loop.invariant.0 (omega arith) (value_of_lem c-links-from.ensures c-loop.l c-value.ensures (omega arith)) refl) c-pre.1
 
 loop-less : tie.Need-loop-smaller invariant-loop decreases-loop
 loop-less c =
@@ -66,7 +66,7 @@ loop-less c =
     let p2 = p1.before.before.before.before in
     let c-links-from = p2.links-from in
     let c-args = p2.before.before.before.args in
-    rw (next-of c-links-from.ensures c-loop.l c-next.ensures (omega arith)) (chain-falls c-args.graph.now c-loop.invariant.0 (omega arith))
+    rw (next_of_lem c-links-from.ensures c-loop.l c-next.ensures (omega arith)) (chain_falls c-args.graph.now c-loop.invariant.0 (omega arith))
 
 loop-again : tie.Need-loop-preserved invariant-loop decreases-loop
 loop-again c =
@@ -78,7 +78,7 @@ loop-again c =
     let p2 = p1.before.before.before.before in
     let c-links-from = p2.links-from in
     let c-args = p2.before.before.before.args in
-    (rw (next-of c-links-from.ensures c-loop.l c-next.ensures (omega arith)) (once-next c-args.graph.now c-loop.invariant.0 (omega arith)), turn_more (Building 65536 c-args.filling c-args.rows) (tagged c-args.item) (λ r. edge r c-args.item ∷ []) (λ r l. refl) c-loop.invariant.1 (chain-turn c-args.graph.now c-loop.invariant.0 (omega arith) (value-of c-links-from.ensures c-loop.l c-value.ensures (omega arith)) (next-of c-links-from.ensures c-loop.l c-next.ensures (omega arith))) c-place.ensures)
+    (rw (next_of_lem c-links-from.ensures c-loop.l c-next.ensures (omega arith)) (once_next c-args.graph.now c-loop.invariant.0 (omega arith)), turn_more (Building 65536 c-args.filling c-args.rows) (tagged c-args.item) (λ r. edge r c-args.item ∷ []) (λ r l. refl) c-loop.invariant.1 (chain_turn c-args.graph.now c-loop.invariant.0 (omega arith) (value_of_lem c-links-from.ensures c-loop.l c-value.ensures (omega arith)) (next_of_lem c-links-from.ensures c-loop.l c-next.ensures (omega arith))) c-place.ensures)
 
 same_length : tie.Need-same-length invariant-loop decreases-loop
 same_length c = search rules
@@ -88,7 +88,7 @@ returns c =
     let c-loop = c.before.loop in
     let p1 = c.before.before.before.before.before in
     let c-args = p1.args in
-    let e : c-loop.l ≡ 0 = omega arith in let z : chain c-args.graph.now c-loop.l ≡ [] = rw e (chain-end c-args.graph.now) in turn-done (Building 65536 c-args.filling c-args.rows) (tagged c-args.item) (λ r. edge r c-args.item ∷ []) (λ r l. refl) c-loop.invariant.1 z refl
+    let e : c-loop.l ≡ 0 = omega arith in let z : chain c-args.graph.now c-loop.l ≡ [] = rw e (chain_end c-args.graph.now) in turn_done (Building 65536 c-args.filling c-args.rows) (tagged c-args.item) (λ r. edge r c-args.item ∷ []) (λ r l. refl) c-loop.invariant.1 z refl
 
 pub place-chain-spec : {M : Type 1} → statement M
 place-chain-spec =

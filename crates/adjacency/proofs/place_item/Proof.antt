@@ -1,9 +1,9 @@
 use mathlib.Core.Path.{◌≡◌, sym, ◌∙◌, ap}
-use Rattle.theory.specs.Words.{chain, theoryOf}
+use Rattle.theory.specs.Words.{chain, theory_of}
 use Rattle.theory.specs.Rows.{tagged}
-use Rattle.graph.proofs.DecodeLaws.{the-heads}
+use Rattle.graph.proofs.DecodeLaws.{the_heads}
 use Rattle.adjacency.specs.declared.Table.TheVariants.{AtomNodes, Parents, ByHead, ByBody}
-use Rattle.adjacency.proofs.KeyLaws.{leaf-keys}
+use Rattle.adjacency.proofs.KeyLaws.{leaf_keys_lem}
 use borrow.Author.Rules.{rules}
 use Rattle.adjacency.proofs.place_item.Statement.{statement}
 use Rattle.adjacency.proofs.place_item.Tie as tie
@@ -23,7 +23,7 @@ enum-told-2 : tie.Need-enum-told-2
 enum-told-2 c = search rules
 
 first-leaf-requires : tie.Need-first-leaf-requires
-unfolding theoryOf
+unfolding theory_of
 first-leaf-requires c κs =
     let c-enum-told2 = c.before.enum-told2 in
     let p1 = c.before.before.before.before.before in
@@ -32,7 +32,7 @@ first-leaf-requires c κs =
     let e : c-args.table ≡ Parents = c-enum-told2.given.1 in record { size = c-pre.0.0.size; below = rw e at c-pre.0.1 }
 
 place-chain-requires : tie.Need-place-chain-requires
-unfolding theoryOf
+unfolding theory_of
 place-chain-requires c κs =
     let c-first-leaf = c.first_leaf in
     let c-enum-told2 = c.before.before.enum-told2 in
@@ -40,13 +40,13 @@ place-chain-requires c κs =
     let c-args = p1.args in
     let c-pre = p1.requires in
     let e : c-args.table ≡ Parents = c-enum-told2.given.1 in let h = rw e at c-pre.0.1 in
-    ((c-pre.0.0, rw c-first-leaf.ensures (c-pre.0.0.leaf-chain c-args.i h)), rw (ap (tagged c-args.i) (leaf-keys c-args.graph.now c-pre.0.0 c-args.i h ∙ ap (chain c-args.graph.now) (sym c-first-leaf.ensures))) at (rw e at c-pre.1))
+    ((c-pre.0.0, rw c-first-leaf.ensures (c-pre.0.0.leaf_chain c-args.i h)), rw (ap (tagged c-args.i) (leaf_keys_lem c-args.graph.now c-pre.0.0 c-args.i h ∙ ap (chain c-args.graph.now) (sym c-first-leaf.ensures))) at (rw e at c-pre.1))
 
 enum-told-3 : tie.Need-enum-told-3
 enum-told-3 c = search rules
 
 first-head-requires : tie.Need-first-head-requires
-unfolding theoryOf
+unfolding theory_of
 first-head-requires c κs =
     let c-enum-told3 = c.before.enum-told3 in
     let p1 = c.before.before.before.before.before in
@@ -55,7 +55,7 @@ first-head-requires c κs =
     let e : c-args.table ≡ ByHead = c-enum-told3.given.1 in record { size = c-pre.0.0.size; below = rw e at c-pre.0.1 }
 
 place-chain-requires-2 : tie.Need-place-chain-requires-2
-unfolding theoryOf
+unfolding theory_of
 place-chain-requires-2 c κs =
     let c-first-head = c.first_head in
     let c-enum-told3 = c.before.before.enum-told3 in
@@ -63,7 +63,7 @@ place-chain-requires-2 c κs =
     let c-args = p1.args in
     let c-pre = p1.requires in
     let e : c-args.table ≡ ByHead = c-enum-told3.given.1 in let h = rw e at c-pre.0.1 in
-    ((c-pre.0.0, rw c-first-head.ensures (c-pre.0.0.head-chain c-args.i h)), rw (ap (tagged c-args.i) (the-heads c-args.graph.now c-args.i ∙ ap (chain c-args.graph.now) (sym c-first-head.ensures))) at (rw e at c-pre.1))
+    ((c-pre.0.0, rw c-first-head.ensures (c-pre.0.0.head_chain c-args.i h)), rw (ap (tagged c-args.i) (the_heads c-args.graph.now c-args.i ∙ ap (chain c-args.graph.now) (sym c-first-head.ensures))) at (rw e at c-pre.1))
 
 enum-told-4 : tie.Need-enum-told-4
 enum-told-4 c = search rules
@@ -92,7 +92,7 @@ same-length-2 : tie.Need-same-length-2
 same-length-2 c = search rules
 
 returns-2 : tie.Need-returns-2
-unfolding theoryOf
+unfolding theory_of
 returns-2 c =
     let c-place-chain = c.before.before.place-chain in
     let c-first-leaf = c.before.before.before.first_leaf in
@@ -102,7 +102,7 @@ returns-2 c =
     let c-args = p2.args in
     let c-pre = p2.requires in
     let e : c-args.table ≡ Parents = c-enum-told2.given.1 in let h = rw e at c-pre.0.1 in
-    rw (e, ap (tagged c-args.i) (leaf-keys c-args.graph.now c-pre.0.0 c-args.i h ∙ ap (chain c-args.graph.now) (sym c-first-leaf.ensures))) c-place-chain.ensures
+    rw (e, ap (tagged c-args.i) (leaf_keys_lem c-args.graph.now c-pre.0.0 c-args.i h ∙ ap (chain c-args.graph.now) (sym c-first-leaf.ensures))) c-place-chain.ensures
 
 same-length-3 : tie.Need-same-length-3
 same-length-3 c = search rules
@@ -116,7 +116,7 @@ returns-3 c =
     let p2 = p1.before.before.before.before in
     let c-args = p2.args in
     let e : c-args.table ≡ ByHead = c-enum-told3.given.1 in
-    rw (e, ap (tagged c-args.i) (the-heads c-args.graph.now c-args.i ∙ ap (chain c-args.graph.now) (sym c-first-head.ensures))) c-place-chain2.ensures
+    rw (e, ap (tagged c-args.i) (the_heads c-args.graph.now c-args.i ∙ ap (chain c-args.graph.now) (sym c-first-head.ensures))) c-place-chain2.ensures
 
 same-length-4 : tie.Need-same-length-4
 same-length-4 c = search rules

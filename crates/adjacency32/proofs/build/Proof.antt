@@ -1,7 +1,7 @@
 -- Written by tools/widen from crates/adjacency/proofs/build/Proof.antt: edit that one.
 use native.Mathlib.Omega.{arith}
 use lib.ListN.{length-take}
-use Rattle.adjacency.proofs.TableLaws.{start, to-count, to-sum, to_fill, filled}
+use Rattle.adjacency.proofs.TableLaws.{start, to_count, to_sum, to_fill, filled}
 use borrow.Author.Rules.{rules}
 use Rattle.adjacency32.proofs.build.Statement.{statement}
 use Rattle.adjacency32.proofs.build.Tie as tie
@@ -35,7 +35,7 @@ place-all-requires c κs =
     let c-rows-in = p1.rows_in in
     let c-pre = p1.before.before.before.requires in
     let c-args = p1.before.before.before.args in
-    (c-pre.0, to-count (start c-pre.0 (omega arith) (omega arith) c-args.table c-rows-in.ensures c-clear.ensures c-pre.1))
+    (c-pre.0, to_count (start c-pre.0 (omega arith) (omega arith) c-args.table c-rows-in.ensures c-clear.ensures c-pre.1))
 
 sum-requires : tie.Need-sum-requires
 sum-requires c κs =
@@ -46,7 +46,7 @@ sum-requires c κs =
     let p2 = p1.before.before.before.before.before in
     let c-pre = p2.requires in
     let c-args = p2.args in
-    to-sum (start c-pre.0 (omega arith) (omega arith) c-args.table c-rows-in.ensures c-clear.ensures c-pre.1) c-place-all.ensures
+    to_sum (start c-pre.0 (omega arith) (omega arith) c-args.table c-rows-in.ensures c-clear.ensures c-pre.1) c-place-all.ensures
 
 place-all-requires-2 : tie.Need-place-all-requires-2
 place-all-requires-2 c κs =

@@ -1,6 +1,6 @@
 -- Written by tools/widen from crates/adjacency/proofs/place/Proof.antt: edit that one.
 use native.Mathlib.Omega.{arith}
-use Rattle.adjacency.proofs.BuildLaws.{placing, drives-counted, drives-filled}
+use Rattle.adjacency.proofs.BuildLaws.{placing, drives_counted, drives_filled}
 use borrow.Author.Rules.{rules}
 use Rattle.adjacency32.proofs.place.Statement.{statement}
 use Rattle.adjacency32.proofs.place.Tie as tie
@@ -44,7 +44,7 @@ returns c =
     let p1 = c.before.before.before.before in
     let c-if1 = p1.if1 in
     let c-add = p1.before.before.before.add in
-    rw (c-put.ensures, c-add.ensures.1, c-add.ensures.0) (drives-filled c-if1.true)
+    rw (c-put.ensures, c-add.ensures.1, c-add.ensures.0) (drives_filled c-if1.true)
 
 same-length-2 : tie.Need-same-length-2
 same-length-2 c = search rules
@@ -53,7 +53,7 @@ returns-2 : tie.Need-returns-2
 returns-2 c =
     let c-if1 = c.if1 in
     let c-add = c.before.before.before.add in
-    rw (c-add.ensures.1, c-add.ensures.0) (drives-counted c-if1.false)
+    rw (c-add.ensures.1, c-add.ensures.0) (drives_counted c-if1.false)
 
 pub place-spec : {M : Type 1} → statement M
 place-spec =

@@ -1,6 +1,6 @@
 -- Written by tools/widen from crates/adjacency/proofs/rows_in/Proof.antt: edit that one.
 use mathlib.Core.Path.{◌≡◌}
-use Rattle.theory.specs.Words.{theoryOf}
+use Rattle.theory.specs.Words.{theory_of}
 use Rattle.adjacency.specs.declared.Table.TheVariants.{AtomNodes, Parents, ByHead, ByBody}
 use borrow.Author.Rules.{rules}
 use Rattle.adjacency32.proofs.rows_in.Statement.{statement}
@@ -31,7 +31,7 @@ nodes-requires-2 : tie.Need-nodes-requires-2
 nodes-requires-2 c κs = search rules
 
 returns : tie.Need-returns
-unfolding theoryOf
+unfolding theory_of
 returns c =
     let c-atoms = c.atoms in
     let c-enum-told = c.before.enum_told in
@@ -40,7 +40,7 @@ returns c =
     let e : c-args.table ≡ AtomNodes = c-enum-told.given.1 in rw e c-atoms.ensures
 
 returns-2 : tie.Need-returns-2
-unfolding theoryOf
+unfolding theory_of
 returns-2 c =
     let c-nodes = c.nodes in
     let c-enum-told2 = c.before.enum-told2 in
@@ -49,7 +49,7 @@ returns-2 c =
     let e : c-args.table ≡ Parents = c-enum-told2.given.1 in rw e c-nodes.ensures
 
 returns-3 : tie.Need-returns-3
-unfolding theoryOf
+unfolding theory_of
 returns-3 c =
     let c-atoms2 = c.atoms2 in
     let c-enum-told3 = c.before.enum-told3 in
@@ -58,7 +58,7 @@ returns-3 c =
     let e : c-args.table ≡ ByHead = c-enum-told3.given.1 in rw e c-atoms2.ensures
 
 returns-4 : tie.Need-returns-4
-unfolding theoryOf
+unfolding theory_of
 returns-4 c =
     let c-nodes2 = c.nodes2 in
     let c-enum-told4 = c.before.enum-told4 in

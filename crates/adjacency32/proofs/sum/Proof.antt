@@ -5,7 +5,7 @@ use native.Mathlib.Omega.{arith}
 use lib.ListN.{get_or}
 use Rattle.theory.proofs.CountLaws.{sum_mono}
 use Rattle.adjacency.specs.Building.{Summed, sum_of}
-use Rattle.adjacency.proofs.BuildLaws.{summed-none, summed-next, summed-more}
+use Rattle.adjacency.proofs.BuildLaws.{summed_none, summed_next, summed_more}
 use borrow.Author.Rules.{rules}
 use Rattle.adjacency32.proofs.sum.Statement.{statement}
 use Rattle.adjacency32.proofs.sum.Tie as tie
@@ -19,7 +19,7 @@ decreases-loop part₀ rows total₀ r₀ part total r = rows - r
 loop-holds : tie.Need-loop-init invariant-loop decreases-loop
 loop-holds c =
     let c-args = c.before.args in
-    (omega arith, summed-none c-args.part.now)
+    (omega arith, summed_none c-args.part.now)
 
 add_at : tie.Need-overflow-add-at invariant-loop decreases-loop
 add_at c =
@@ -51,7 +51,7 @@ add_total c =
     let c-loop = p1.before.before.before.loop in
     let p2 = p1.before.before.before.before.before in
     let c-args = p2.args in
-    omega (arith, summed-next c-loop.invariant.1 c-at.ensures.0, sum_mono (c-loop.r + 1) c-args.rows (λ s. get_or c-args.part.now (s + 1) 0) (omega arith))
+    omega (arith, summed_next c-loop.invariant.1 c-at.ensures.0, sum_mono (c-loop.r + 1) c-args.rows (λ s. get_or c-args.part.now (s + 1) 0) (omega arith))
 
 add_r : tie.Need-overflow-add-r invariant-loop decreases-loop
 add_r c = search rules
@@ -65,7 +65,7 @@ loop-again c =
     let p1 = c.before.before.before.before in
     let c-at = p1.at in
     let c-loop = p1.before.before.before.loop in
-    let s = c-loop.invariant.1.size in (omega arith, rw c-put.ensures (summed-more c-loop.invariant.1 c-at.ensures.0 (omega arith)))
+    let s = c-loop.invariant.1.size in (omega arith, rw c-put.ensures (summed_more c-loop.invariant.1 c-at.ensures.0 (omega arith)))
 
 same_length : tie.Need-same-length invariant-loop decreases-loop
 same_length c = search rules

@@ -1,5 +1,5 @@
 use native.Mathlib.Omega.{arith}
-use Rattle.agreement.proofs.ReplyLaws.{check-says}
+use Rattle.agreement.proofs.ReplyLaws.{check_says}
 use borrow.Author.Rules.{rules}
 use Rattle.agreement.proofs.check_agrees.Statement.{statement}
 use Rattle.agreement.proofs.check_agrees.Tie as tie
@@ -11,7 +11,7 @@ code-requires : tie.Need-code-requires
 code-requires c κs = search rules
 
 returns : tie.Need-returns
-returns c = check-says _ c.before.founded-check.ensures c.code.ensures (omega arith)
+returns c = check_says _ c.before.founded-check.ensures c.code.ensures (omega arith)
 
 pub check-agrees-spec : {M : Type 1} → statement M
 check-agrees-spec = tie.close (tie.spec founded-check-requires code-requires returns)

@@ -1,5 +1,5 @@
 use mathlib.Core.Path.{sym, ◌∙◌}
-use Rattle.agreement.proofs.ReplyLaws.{first-no, second-says}
+use Rattle.agreement.proofs.ReplyLaws.{first_no, second_says}
 use borrow.Author.Rules.{rules}
 use Rattle.agreement.proofs.needed_agrees.Statement.{statement}
 use Rattle.agreement.proofs.needed_agrees.Tie as tie
@@ -32,7 +32,7 @@ returns c =
       code = c-founded-needed.result;
       work = _;
       promised = rw c-fill.ensures at c-founded-needed.ensures;
-      told = second-says (c-if1.true ∙ c-needed-code.ensures) c-work-agrees.ensures;
+      told = second_says (c-if1.true ∙ c-needed-code.ensures) c-work-agrees.ensures;
     }
 
 same-length-2 : tie.Need-same-length-2
@@ -50,7 +50,7 @@ returns-2 c =
       code = c-founded-needed.result;
       work = _;
       promised = rw c-fill.ensures at c-founded-needed.ensures;
-      told = first-no (λ e. c-if1.false (e ∙ sym c-needed-code.ensures));
+      told = first_no (λ e. c-if1.false (e ∙ sym c-needed-code.ensures));
     }
 
 pub needed-agrees-spec : {M : Type 1} → statement M

@@ -1,4 +1,4 @@
-use Rattle.agreement.proofs.ReplyLaws.{program-says}
+use Rattle.agreement.proofs.ReplyLaws.{program_says}
 use borrow.Author.Rules.{rules}
 use Rattle.agreement.proofs.program_agrees.Statement.{statement}
 use Rattle.agreement.proofs.program_agrees.Tie as tie
@@ -16,7 +16,7 @@ same-bytes-requires : tie.Need-same-bytes-requires
 same-bytes-requires c κs = search rules
 
 returns : tie.Need-returns
-returns c = program-says c.before.before.report.ensures c.same_bytes.ensures
+returns c = program_says c.before.before.report.ensures c.same_bytes.ensures
 
 pub program-agrees-spec : {M : Type 1} → statement M
 program-agrees-spec =

@@ -3,7 +3,7 @@ use native.Mathlib.Nat.{not-suc-le-zero}
 use native.Mathlib.Omega.{arith}
 use lib.ListN.{length}
 use borrow.Author.Tests.{eqb-true}
-use Rattle.area.proofs.WipeLaws.{BlankTo, blank-more, all-blank}
+use Rattle.area.proofs.WipeLaws.{BlankTo, blank_more, all_blank}
 use borrow.Author.Rules.{rules}
 use Rattle.area.proofs.blank.Statement.{statement}
 use Rattle.area.proofs.blank.Tie as tie
@@ -33,7 +33,7 @@ loop-again : tie.Need-loop-preserved invariant-loop decreases-loop
 loop-again c =
     let c-loop = c.before.before.loop in
     let c-args = c.before.before.before.args in
-    (omega arith, blank-more c-args.words.now c-loop.all c-loop.j c-loop.invariant.1)
+    (omega arith, blank_more c-args.words.now c-loop.all c-loop.j c-loop.invariant.1)
 
 returns : tie.Need-returns invariant-loop decreases-loop
 returns c =

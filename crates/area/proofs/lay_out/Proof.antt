@@ -1,6 +1,6 @@
 use mathlib.Core.Path.{refl}
 use native.Mathlib.Omega.{arith}
-use Rattle.area.specs.Layout.{layOut}
+use Rattle.area.specs.Layout.{lay_out}
 use borrow.Author.Rules.{rules}
 use Rattle.area.proofs.lay_out.Statement.{statement}
 use Rattle.area.proofs.lay_out.Tie as tie
@@ -72,14 +72,14 @@ add-t16 : tie.Need-overflow-add-t16
 add-t16 c = search rules
 
 returns : tie.Need-returns
-unfolding layOut
+unfolding lay_out
 returns c = record {
   laid = omega arith;
   atoms_are = refl;
-  nodes-are = refl;
-  producers-are = refl;
-  leaves-are = refl;
-  heads-are = refl;
+  nodes_are = refl;
+  producers_are = refl;
+  leaves_are = refl;
+  heads_are = refl;
   ends = omega arith;
   is = refl;
 }

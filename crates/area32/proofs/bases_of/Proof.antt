@@ -1,5 +1,5 @@
 -- Written by tools/widen from crates/area/proofs/bases_of/Proof.antt: edit that one.
-use Rattle.area.specs.Layout.{entriesIn}
+use Rattle.area.specs.Layout.{entries_in}
 use Rattle.area.proofs.LayoutLaws.{based}
 use borrow.Author.Rules.{rules}
 use Rattle.area32.proofs.bases_of.Statement.{statement}
@@ -39,7 +39,7 @@ lay-out-requires : tie.Need-lay-out-requires
 lay-out-requires c κs = search rules
 
 returns : tie.Need-returns
-unfolding entriesIn
+unfolding entries_in
 returns c =
     let c-lay-out = c.lay-out in
     let c-producers = c.before.producers in

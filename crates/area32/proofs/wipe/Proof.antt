@@ -4,7 +4,7 @@ use Prim.Native.Nat.{◌+◌, ◌-◌, ◌≤◌}
 use native.Mathlib.Omega.{arith}
 use lib.ListN.{length, take, replicate}
 use lib.Seq.{take_all}
-use Rattle.area.proofs.WipeLaws.{wiped-part}
+use Rattle.area.proofs.WipeLaws.{wiped_part}
 use borrow.Author.Rules.{rules}
 use Rattle.area32.proofs.wipe.Statement.{statement}
 use Rattle.area32.proofs.wipe.Tie as tie
@@ -48,7 +48,7 @@ loop-again c =
     let c-loop = c.before.before.before.before.before.loop in
     let from = c-loop.from in
     let k = c-loop.invariant.2 in
-    let part = wiped-part from (from + 512) c-loop.words c-wipe-block.new.0 (omega arith) (omega arith) c-loop.invariant.3 c-wipe-block.ensures in
+    let part = wiped_part from (from + 512) c-loop.words c-wipe-block.new.0 (omega arith) (omega arith) c-loop.invariant.3 c-wipe-block.ensures in
     (omega arith, refl, search rules, part)
 
 mul-clear : tie.Need-overflow-mul-clear invariant-loop decreases-loop
@@ -76,7 +76,7 @@ returns c =
     let c-args = c.before.before.before.before.before.before.before.args in
     let k = c-loop.invariant.2 in
     sym (take_all (length c-args.words.now) _ (search rules))
-    ∙ wiped-part c-loop.from (length c-args.words.now) c-loop.words c-clear.new.0 (omega arith) (omega arith) c-loop.invariant.3 c-clear.ensures
+    ∙ wiped_part c-loop.from (length c-args.words.now) c-loop.words c-clear.new.0 (omega arith) (omega arith) c-loop.invariant.3 c-clear.ensures
 
 pub wipe-spec : {M : Type 1} → statement M
 wipe-spec =

@@ -1,8 +1,8 @@
 -- Written by tools/widen from crates/checking/proofs/check/Proof.antt: edit that one.
 use mathlib.Core.Path.{sym, ◌∙◌}
-use Rattle.refusals.specs.Answer.{firstRefusal}
-use Rattle.refusals.specs.Refusals.{graphRows, graphAnswer}
-use Rattle.refusals.proofs.RowLaws.{edition-long, sized}
+use Rattle.refusals.specs.Answer.{first_refusal}
+use Rattle.refusals.specs.Refusals.{graph_rows, graph_answer}
+use Rattle.refusals.proofs.RowLaws.{edition_long, sized}
 use borrow.Author.Rules.{rules}
 use Rattle.checking32.proofs.check.Statement.{statement}
 use Rattle.checking32.proofs.check.Tie as tie
@@ -11,7 +11,7 @@ bad-edition-requires : tie.Need-bad-edition-requires
 bad-edition-requires c κs = search rules
 
 returns : tie.Need-returns
-unfolding graphAnswer graphRows firstRefusal
+unfolding graph_answer graph_rows first_refusal
 returns c =
     let c-if1 = c.if1 in
     let c-bad-edition = c.before.bad-edition in
@@ -21,10 +21,10 @@ bad-counts-requires : tie.Need-bad-counts-requires
 bad-counts-requires c κs =
     let c-if1 = c.if1 in
     let c-bad-edition = c.before.bad-edition in
-    edition-long _ _ (sym c-bad-edition.ensures ∙ c-if1.false)
+    edition_long _ _ (sym c-bad-edition.ensures ∙ c-if1.false)
 
 returns-2 : tie.Need-returns-2
-unfolding graphAnswer graphRows firstRefusal
+unfolding graph_answer graph_rows first_refusal
 returns-2 c =
     let c-if2 = c.if2 in
     let c-bad-counts = c.before.bad-counts in
@@ -36,10 +36,10 @@ bad-size-requires : tie.Need-bad-size-requires
 bad-size-requires c κs =
     let c-if1 = c.before.before.if1 in
     let c-bad-edition = c.before.before.before.bad-edition in
-    edition-long _ _ (sym c-bad-edition.ensures ∙ c-if1.false)
+    edition_long _ _ (sym c-bad-edition.ensures ∙ c-if1.false)
 
 returns-3 : tie.Need-returns-3
-unfolding graphAnswer graphRows firstRefusal
+unfolding graph_answer graph_rows first_refusal
 returns-3 c =
     let c-if3 = c.if3 in
     let c-bad-size = c.before.bad-size in
@@ -59,7 +59,7 @@ check-records-requires c κs =
     sized _ _ (sym c-bad-counts.ensures ∙ c-if2.false) (sym c-bad-size.ensures ∙ c-if3.false)
 
 returns-4 : tie.Need-returns-4
-unfolding graphAnswer graphRows firstRefusal
+unfolding graph_answer graph_rows first_refusal
 returns-4 c =
     let c-check-records = c.check-records in
     let c-if3 = c.before.if3 in

@@ -1,5 +1,5 @@
 use Rattle.area.proofs.FillLaws.{filled}
-use Rattle.components.proofs.StartLaws.{flags-part, sizes, sweep-begin, sweep-finish}
+use Rattle.components.proofs.StartLaws.{flags_part, sizes, sweep_begin, sweep_finish}
 use borrow.Author.Rules.{rules}
 use Rattle.components.proofs.cyclic_atoms.Statement.{statement}
 use Rattle.components.proofs.cyclic_atoms.Tie as tie
@@ -34,8 +34,8 @@ classify-requires c κs =
     let c-finish-order = p1.finish-order in
     let p2 = p1.before.before.before.before in
     let c-pre = p2.requires in
-    let f = filled (flags-part c-pre.0 c-pre.1.based c-pre.2 c-finish-order.ensures) c-clear.ensures in
-    (c-pre.0, rw (sizes c-pre.0 c-pre.1.based c-pre.2 c-finish-order.ensures f) c-pre.1.based, sweep-begin c-pre.0 c-pre.1.based c-pre.2 c-finish-order.ensures f)
+    let f = filled (flags_part c-pre.0 c-pre.1.based c-pre.2 c-finish-order.ensures) c-clear.ensures in
+    (c-pre.0, rw (sizes c-pre.0 c-pre.1.based c-pre.2 c-finish-order.ensures f) c-pre.1.based, sweep_begin c-pre.0 c-pre.1.based c-pre.2 c-finish-order.ensures f)
 
 same_length : tie.Need-same-length
 same_length c = search rules
@@ -49,8 +49,8 @@ returns c =
     let c-finish-order = p2.finish-order in
     let p3 = p2.before.before.before.before in
     let c-pre = p3.requires in
-    let f = filled (flags-part c-pre.0 c-pre.1.based c-pre.2 c-finish-order.ensures) c-clear.ensures in
-    sweep-finish c-pre.0 c-pre.1.based c-pre.2 c-finish-order.ensures f c-classify.ensures
+    let f = filled (flags_part c-pre.0 c-pre.1.based c-pre.2 c-finish-order.ensures) c-clear.ensures in
+    sweep_finish c-pre.0 c-pre.1.based c-pre.2 c-finish-order.ensures f c-classify.ensures
 
 pub cyclic-atoms-spec : {M : Type 1} → statement M
 cyclic-atoms-spec =

@@ -2,8 +2,8 @@ use mathlib.Core.Path.{◌≡◌}
 use Prim.Native.Nat.{◌+◌, ◌-◌}
 use native.Mathlib.Omega.{arith}
 use Rattle.components.specs.Classes.{Searched}
-use Rattle.components.proofs.TurnLaws.{tail-low, head-low, turn-follows, turn-next}
-use Rattle.events.proofs.VertexLaws.{tables-same}
+use Rattle.components.proofs.TurnLaws.{tail_low, head_low, turn_follows, turn_next}
+use Rattle.events.proofs.VertexLaws.{tables_same}
 use Rattle.components.proofs.follow.Statement.{statement}
 use Rattle.components.proofs.follow.Tie as tie
 use Rattle.components.proofs.follow.Reads as reads
@@ -21,7 +21,7 @@ add-tail : tie.Need-overflow-add-tail invariant-loop decreases-loop
 add-tail c =
     let c-pre = c.before.before.requires in
     let c-args = c.before.before.args in
-    let r = c-pre.3 in let t = tail-low c-pre.0 c-pre.1 c-args.n c-args.found c-args.found (c-args.found + 1) r in let l = c-pre.1.laid in let q = c-pre.1.ends in omega arith
+    let r = c-pre.3 in let t = tail_low c-pre.0 c-pre.1 c-args.n c-args.found c-args.found (c-args.found + 1) r in let l = c-pre.1.laid in let q = c-pre.1.ends in omega arith
 
 loop-holds : tie.Need-loop-init invariant-loop decreases-loop
 loop-holds c =
@@ -35,7 +35,7 @@ add_at c =
     let p1 = c.before.before.before.before.before.before in
     let c-pre = p1.requires in
     let c-args = p1.args in
-    let r = c-loop.invariant in let t = tail-low c-pre.0 c-pre.1 c-args.n c-args.found c-loop.head c-loop.tail r in let l = c-pre.1.laid in let q = c-pre.1.ends in let z = c-loop-test.true in omega arith
+    let r = c-loop.invariant in let t = tail_low c-pre.0 c-pre.1 c-args.n c-args.found c-loop.head c-loop.tail r in let l = c-pre.1.laid in let q = c-pre.1.ends in let z = c-loop-test.true in omega arith
 
 at-requires : tie.Need-at-requires invariant-loop decreases-loop
 at-requires c κs =
@@ -44,7 +44,7 @@ at-requires c κs =
     let p1 = c.before.before.before.before.before.before in
     let c-pre = p1.requires in
     let c-args = p1.args in
-    let r = c-loop.invariant in let t = tail-low c-pre.0 c-pre.1 c-args.n c-args.found c-loop.head c-loop.tail r in let l = c-pre.1.laid in let q = r.held.long in let z = c-loop-test.true in omega arith
+    let r = c-loop.invariant in let t = tail_low c-pre.0 c-pre.1 c-args.n c-args.found c-loop.head c-loop.tail r in let l = c-pre.1.laid in let q = r.held.long in let z = c-loop-test.true in omega arith
 
 collect-vertex-requires : tie.Need-collect-vertex-requires invariant-loop decreases-loop
 collect-vertex-requires c κs =
@@ -55,7 +55,7 @@ collect-vertex-requires c κs =
     let p2 = p1.before.before.before.before in
     let c-pre = p2.requires in
     let c-args = p2.args in
-    let r = c-loop.invariant in ((c-pre.0, rw r.kept.size c-pre.1, head-low c-pre.0 c-pre.1 c-args.n c-args.found c-loop.head c-loop.tail r c-loop-test.true c-at.ensures.0, tables-same r.kept.tables r.kept.size c-pre.2), turn-follows c-pre.0 c-pre.1 c-args.n c-args.found c-loop.head c-loop.tail r c-loop-test.true c-at.ensures.0)
+    let r = c-loop.invariant in ((c-pre.0, rw r.kept.size c-pre.1, head_low c-pre.0 c-pre.1 c-args.n c-args.found c-loop.head c-loop.tail r c-loop-test.true c-at.ensures.0, tables_same r.kept.tables r.kept.size c-pre.2), turn_follows c-pre.0 c-pre.1 c-args.n c-args.found c-loop.head c-loop.tail r c-loop-test.true c-at.ensures.0)
 
 add-head : tie.Need-overflow-add-head invariant-loop decreases-loop
 add-head c =
@@ -65,7 +65,7 @@ add-head c =
     let p2 = p1.before.before.before.before in
     let c-pre = p2.requires in
     let c-args = p2.args in
-    let r = c-loop.invariant in let t = tail-low c-pre.0 c-pre.1 c-args.n c-args.found c-loop.head c-loop.tail r in let l = c-pre.1.laid in let q = c-pre.1.ends in let z = c-loop-test.true in omega arith
+    let r = c-loop.invariant in let t = tail_low c-pre.0 c-pre.1 c-args.n c-args.found c-loop.head c-loop.tail r in let l = c-pre.1.laid in let q = c-pre.1.ends in let z = c-loop-test.true in omega arith
 
 loop-less : tie.Need-loop-smaller invariant-loop decreases-loop
 loop-less c =
@@ -75,7 +75,7 @@ loop-less c =
     let p2 = p1.before.before.before.before in
     let c-pre = p2.requires in
     let c-args = p2.args in
-    let r = c-loop.invariant in let t = tail-low c-pre.0 c-pre.1 c-args.n c-args.found c-loop.head c-loop.tail r in let z = c-loop-test.true in omega arith
+    let r = c-loop.invariant in let t = tail_low c-pre.0 c-pre.1 c-args.n c-args.found c-loop.head c-loop.tail r in let z = c-loop-test.true in omega arith
 
 loop-again : tie.Need-loop-preserved invariant-loop decreases-loop
 loop-again c =
@@ -87,7 +87,7 @@ loop-again c =
     let c-loop = p2.loop in
     let c-pre = p2.before.before.before.requires in
     let c-args = p2.before.before.before.args in
-    turn-next c-pre.0 c-pre.1 c-args.n c-args.found c-loop.head c-loop.tail c-loop.invariant c-loop-test.true c-at.ensures.0 c-collect-vertex.ensures
+    turn_next c-pre.0 c-pre.1 c-args.n c-args.found c-loop.head c-loop.tail c-loop.invariant c-loop-test.true c-at.ensures.0 c-collect-vertex.ensures
 
 same_length : tie.Need-same-length invariant-loop decreases-loop
 same_length c =

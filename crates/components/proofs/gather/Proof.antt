@@ -2,9 +2,9 @@ use mathlib.Core.Path.{sym, ◌∙◌}
 use Prim.Native.Nat.{◌+◌, ◌<◌}
 use native.Mathlib.Omega.{arith}
 use lib.ListN.{length-set}
-use Rattle.events.proofs.VertexLaws.{tables-same}
-use Rattle.components.proofs.GatherLaws.{root_in, root-room, gather-known, gather-start, small}
-use Rattle.components.proofs.TurnLaws.{search-restart, search-join, gather-end}
+use Rattle.events.proofs.VertexLaws.{tables_same}
+use Rattle.components.proofs.GatherLaws.{root_in, root_room, gather_known, gather_start, small}
+use Rattle.components.proofs.TurnLaws.{search_restart, search_join, gather_end}
 use borrow.Author.Rules.{rules}
 use Rattle.components.proofs.gather.Statement.{statement}
 use Rattle.components.proofs.gather.Tie as tie
@@ -54,7 +54,7 @@ returns c =
     let p2 = p1.before.before.before.before.before in
     let c-pre = p2.requires in
     let c-args = p2.args in
-    gather-known c-pre.0 c-pre.1 c-args.n c-args.found c-pre.2 (λ k. c-if1.true (c-at2.ensures.0 ∙ rw c-at.ensures.0 k))
+    gather_known c-pre.0 c-pre.1 c-args.n c-args.found c-pre.2 (λ k. c-if1.true (c-at2.ensures.0 ∙ rw c-at.ensures.0 k))
 
 put-requires : tie.Need-put-requires
 put-requires c κs =
@@ -75,7 +75,7 @@ add-put c =
     let p3 = p2.before.before.before.before.before in
     let c-pre = p3.requires in
     let c-args = p3.args in
-    let l = c-pre.1.laid in let q = c-pre.1.ends in let r = root-room c-pre.0 c-pre.1 c-args.n c-args.found c-pre.2 q (small 65536 c-pre.0 c-pre.1 (omega arith)) (rw c-at.ensures.0 at (sym c-at2.ensures.0 ∙ c-if1.false)) in omega arith
+    let l = c-pre.1.laid in let q = c-pre.1.ends in let r = root_room c-pre.0 c-pre.1 c-args.n c-args.found c-pre.2 q (small 65536 c-pre.0 c-pre.1 (omega arith)) (rw c-at.ensures.0 at (sym c-at2.ensures.0 ∙ c-if1.false)) in omega arith
 
 put-requires-2 : tie.Need-put-requires-2
 put-requires-2 c κs =
@@ -88,7 +88,7 @@ put-requires-2 c κs =
     let p3 = p2.before.before.before.before.before.before in
     let c-pre = p3.requires in
     let c-args = p3.args in
-    let l = c-pre.1.laid in let q = c-pre.1.ends in let r = root-room c-pre.0 c-pre.1 c-args.n c-args.found c-pre.2 q (small 65536 c-pre.0 c-pre.1 (omega arith)) (rw c-at.ensures.0 at (sym c-at2.ensures.0 ∙ c-if1.false)) in (rw (c-put.ensures, length-set) (omega arith), c-at.ensures.1)
+    let l = c-pre.1.laid in let q = c-pre.1.ends in let r = root_room c-pre.0 c-pre.1 c-args.n c-args.found c-pre.2 q (small 65536 c-pre.0 c-pre.1 (omega arith)) (rw c-at.ensures.0 at (sym c-at2.ensures.0 ∙ c-if1.false)) in (rw (c-put.ensures, length-set) (omega arith), c-at.ensures.1)
 
 follow-requires : tie.Need-follow-requires
 follow-requires c κs =
@@ -102,8 +102,8 @@ follow-requires c κs =
     let p3 = p2.before.before.before.before.before.before in
     let c-pre = p3.requires in
     let c-args = p3.args in
-    let s = gather-start c-pre.0 c-pre.1 c-args.n c-args.found c-pre.2 c-pre.1.ends (small 65536 c-pre.0 c-pre.1 (omega arith)) (rw c-at.ensures.0 at (sym c-at2.ensures.0 ∙ c-if1.false)) c-at.result c-at.ensures.0 in
-    rw (c-put2.ensures, c-put.ensures) (c-pre.0, rw s.kept.size c-pre.1, tables-same s.kept.tables s.kept.size c-pre.2.tables, search-restart c-pre.1.laid s.kept c-args.n c-pre.2.fits s)
+    let s = gather_start c-pre.0 c-pre.1 c-args.n c-args.found c-pre.2 c-pre.1.ends (small 65536 c-pre.0 c-pre.1 (omega arith)) (rw c-at.ensures.0 at (sym c-at2.ensures.0 ∙ c-if1.false)) c-at.result c-at.ensures.0 in
+    rw (c-put2.ensures, c-put.ensures) (c-pre.0, rw s.kept.size c-pre.1, tables_same s.kept.tables s.kept.size c-pre.2.tables, search_restart c-pre.1.laid s.kept c-args.n c-pre.2.fits s)
 
 same-length-2 : tie.Need-same-length-2
 same-length-2 c = search rules
@@ -122,8 +122,8 @@ returns-2 c =
     let p4 = p3.before.before.before.before.before.before in
     let c-pre = p4.requires in
     let c-args = p4.args in
-    let s = gather-start c-pre.0 c-pre.1 c-args.n c-args.found c-pre.2 c-pre.1.ends (small 65536 c-pre.0 c-pre.1 (omega arith)) (rw c-at.ensures.0 at (sym c-at2.ensures.0 ∙ c-if1.false)) c-at.result c-at.ensures.0 in
-    gather-end c-pre.0 c-pre.1 c-args.n c-args.found c-follow.result c-follow.result (search-join c-pre.1.laid s.kept c-args.n c-pre.2.fits s.front (rw (c-put2.ensures, c-put.ensures) at c-follow.ensures)) (omega arith) c-pre.2
+    let s = gather_start c-pre.0 c-pre.1 c-args.n c-args.found c-pre.2 c-pre.1.ends (small 65536 c-pre.0 c-pre.1 (omega arith)) (rw c-at.ensures.0 at (sym c-at2.ensures.0 ∙ c-if1.false)) c-at.result c-at.ensures.0 in
+    gather_end c-pre.0 c-pre.1 c-args.n c-args.found c-follow.result c-follow.result (search_join c-pre.1.laid s.kept c-args.n c-pre.2.fits s.front (rw (c-put2.ensures, c-put.ensures) at c-follow.ensures)) (omega arith) c-pre.2
 
 pub gather-spec : {M : Type 1} → statement M
 gather-spec =

@@ -3,7 +3,7 @@ use mathlib.Core.Path.{◌≡◌, ◌∙◌}
 use Prim.Native.Nat.{◌+◌, ◌-◌}
 use native.Mathlib.Omega.{arith}
 use Rattle.components.specs.Classes.{Sweeping}
-use Rattle.components.proofs.FlagLaws.{component-of, classified, sweep-on}
+use Rattle.components.proofs.FlagLaws.{component_of, classified, sweep_on}
 use borrow.Author.Rules.{rules}
 use Rattle.components32.proofs.classify.Statement.{statement}
 use Rattle.components32.proofs.classify.Tie as tie
@@ -40,7 +40,7 @@ flag-requires c κs =
     let p1 = c.before.before.before.before.before.before in
     let c-loop = p1.loop in
     let c-pre = p1.before.before.before.requires in
-    let s = c-loop.invariant in let g = c-gather.ensures in (rw (g.kept.size ∙ s.size) c-pre.1, component-of c-pre.1 g s.flags)
+    let s = c-loop.invariant in let g = c-gather.ensures in (rw (g.kept.size ∙ s.size) c-pre.1, component_of c-pre.1 g s.flags)
 
 loop-less : tie.Need-loop-smaller invariant-loop decreases-loop
 loop-less c =
@@ -54,7 +54,7 @@ loop-again c =
     let p1 = c.before.before.before.before.before.before in
     let c-gather = p1.gather in
     let c-loop = p1.before.before.before.loop in
-    sweep-on c-loop.invariant c-gather.ensures c-flag.ensures
+    sweep_on c-loop.invariant c-gather.ensures c-flag.ensures
 
 same_length : tie.Need-same-length invariant-loop decreases-loop
 same_length c =

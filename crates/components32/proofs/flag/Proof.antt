@@ -1,7 +1,7 @@
 -- Written by tools/widen from crates/components/proofs/flag/Proof.antt: edit that one.
 use Prim.Native.Nat.{◌-◌}
 use native.Mathlib.Omega.{arith}
-use Rattle.components.proofs.FlagLaws.{Flagging, flagging-start, flagging-low, flagging-next, flagging-end, alone-end}
+use Rattle.components.proofs.FlagLaws.{Flagging, flagging_start, flagging_low, flagging_next, flagging_end, alone_end}
 use Rattle.components32.proofs.flag.Statement.{statement}
 use Rattle.components32.proofs.flag.Tie as tie
 use Rattle.components32.proofs.flag.Reads as reads
@@ -17,18 +17,18 @@ decreases-loop graph work₀ b n from to i₀ work i = to - i
 add-if1 : tie.Need-overflow-add-if1 invariant-loop decreases-loop
 add-if1 c =
     let c-pre = c.before.before.requires in
-    let l = c-pre.0.laid in let q = c-pre.0.ends in let f = flagging-low c-pre.0 c-pre.1 in let a = c-pre.1.after in omega arith
+    let l = c-pre.0.laid in let q = c-pre.0.ends in let f = flagging_low c-pre.0 c-pre.1 in let a = c-pre.1.after in omega arith
 
 returns : tie.Need-returns invariant-loop decreases-loop
 returns c =
     let c-if1 = c.if1 in
     let c-pre = c.before.before.before.requires in
-    alone-end c-pre.0 c-pre.1 c-if1.true
+    alone_end c-pre.0 c-pre.1 c-if1.true
 
 loop-holds : tie.Need-loop-init invariant-loop decreases-loop
 loop-holds c =
     let c-pre = c.before.before.before.requires in
-    flagging-start c-pre.0 c-pre.1
+    flagging_start c-pre.0 c-pre.1
 
 flag-member-requires : tie.Need-flag-member-requires invariant-loop decreases-loop
 flag-member-requires c κs =
@@ -36,7 +36,7 @@ flag-member-requires c κs =
     let c-loop = c.before.before.loop in
     let p1 = c.before.before.before.before.before.before in
     let c-pre = p1.requires in
-    let q = c-pre.0.ends in let f = flagging-low c-pre.0 c-pre.1 in let z = c-loop-test.true in let s = c-loop.invariant.size in (c-pre.0.laid, omega arith, omega arith)
+    let q = c-pre.0.ends in let f = flagging_low c-pre.0 c-pre.1 in let z = c-loop-test.true in let s = c-loop.invariant.size in (c-pre.0.laid, omega arith, omega arith)
 
 add-i : tie.Need-overflow-add-i invariant-loop decreases-loop
 add-i c =
@@ -44,7 +44,7 @@ add-i c =
     let c-loop-test = p1.loop-test in
     let p2 = p1.before.before.before.before.before in
     let c-pre = p2.requires in
-    let l = c-pre.0.laid in let q = c-pre.0.ends in let f = flagging-low c-pre.0 c-pre.1 in let z = c-loop-test.true in omega arith
+    let l = c-pre.0.laid in let q = c-pre.0.ends in let f = flagging_low c-pre.0 c-pre.1 in let z = c-loop-test.true in omega arith
 
 loop-less : tie.Need-loop-smaller invariant-loop decreases-loop
 loop-less c =
@@ -61,7 +61,7 @@ loop-again c =
     let c-if1 = p1.before.before.if1 in
     let p2 = p1.before.before.before.before.before in
     let c-pre = p2.requires in
-    rw c-flag-member.ensures (flagging-next c-pre.0 c-pre.1 c-loop.i c-loop.invariant c-loop-test.true c-if1.false)
+    rw c-flag-member.ensures (flagging_next c-pre.0 c-pre.1 c-loop.i c-loop.invariant c-loop-test.true c-if1.false)
 
 same_length : tie.Need-same-length invariant-loop decreases-loop
 same_length c =
@@ -74,7 +74,7 @@ returns-2 c =
     let c-loop = c.before.loop in
     let p1 = c.before.before.before.before.before in
     let c-pre = p1.requires in
-    flagging-end c-pre.0 c-pre.1 c-loop.i c-loop.invariant c-loop-test.false
+    flagging_end c-pre.0 c-pre.1 c-loop.i c-loop.invariant c-loop-test.false
 
 pub flag-spec : {M : Type 1} → statement M
 flag-spec =

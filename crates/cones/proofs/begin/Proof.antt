@@ -1,16 +1,16 @@
 use mathlib.Core.Path.{◌≡◌}
 use Prim.Native.Nat.{◌-◌}
 use native.Mathlib.Omega.{arith}
-use Rattle.theory.specs.Words.{theoryOf}
+use Rattle.theory.specs.Words.{theory_of}
 use Rattle.cones.specs.Cones.{Kept}
 use Rattle.cones.specs.Finding.{Begun}
-use Rattle.cones.proofs.BeginLaws.{kept-none, kept_trans, kept-flags}
+use Rattle.cones.proofs.BeginLaws.{kept_none, kept_trans, kept_flags}
 use borrow.Author.Rules.{rules}
 use Rattle.cones.proofs.begin.Statement.{statement}
 use Rattle.cones.proofs.begin.Tie as tie
 
 abbrev invariant-loop : tie.invariant-loop
-invariant-loop graph work₀ b cyclic-only c₀ p₀ work c p = Begun 65536 (theoryOf graph) cyclic-only b work p c × Kept b work₀ work
+invariant-loop graph work₀ b cyclic-only c₀ p₀ work c p = Begun 65536 (theory_of graph) cyclic-only b work p c × Kept b work₀ work
 
 abbrev decreases-loop : tie.decreases-loop
 decreases-loop graph work₀ b cyclic-only c₀ p₀ work c p = b.producers - p
@@ -18,7 +18,7 @@ decreases-loop graph work₀ b cyclic-only c₀ p₀ work c p = b.producers - p
 loop-holds : tie.Need-loop-init invariant-loop decreases-loop
 loop-holds c =
     let c-pre = c.before.before.requires in
-    (c-pre.1.1, kept-none)
+    (c-pre.1.1, kept_none)
 
 begin-at-requires : tie.Need-begin-at-requires invariant-loop decreases-loop
 begin-at-requires c κs =
@@ -26,7 +26,7 @@ begin-at-requires c κs =
     let p1 = c.before.before.before.before.before.before in
     let c-pre = p1.requires in
     let c-args = p1.args in
-    let e = c-loop.invariant.0.producers in ((c-pre.0.0, rw c-loop.invariant.1.size c-pre.0.1, omega arith), ((λ m. kept-flags (theoryOf c-args.graph.now) c-loop.invariant.1 (c-pre.1.0 m)), c-loop.invariant.0))
+    let e = c-loop.invariant.0.producers in ((c-pre.0.0, rw c-loop.invariant.1.size c-pre.0.1, omega arith), ((λ m. kept-flags (theory_of c-args.graph.now) c-loop.invariant.1 (c-pre.1.0 m)), c-loop.invariant.0))
 
 add-p : tie.Need-overflow-add-p invariant-loop decreases-loop
 add-p c =
@@ -54,7 +54,7 @@ returns c =
     let c-loop = c.before.before.loop in
     let p1 = c.before.before.before.before.before in
     let c-args = p1.args in
-    let l = c-loop.invariant.0.low in let q = c-loop.invariant.0.producers in let e : c-loop.p ≡ (theoryOf c-args.graph.now).producers = omega arith in (rw e at c-loop.invariant.0, c-loop.invariant.1)
+    let l = c-loop.invariant.0.low in let q = c-loop.invariant.0.producers in let e : c-loop.p ≡ (theory_of c-args.graph.now).producers = omega arith in (rw e at c-loop.invariant.0, c-loop.invariant.1)
 
 pub begin-spec : {M : Type 1} → statement M
 begin-spec =

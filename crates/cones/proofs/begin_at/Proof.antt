@@ -1,7 +1,7 @@
 use mathlib.Core.Path.{sym, ◌∙◌}
-use Rattle.theory.specs.Words.{theoryOf}
-use Rattle.graph.proofs.DecodeLaws.{the-body}
-use Rattle.cones.proofs.BeginLaws.{kept-none, begun-skip, begun-follows, begun-body, begun-fact}
+use Rattle.theory.specs.Words.{theory_of}
+use Rattle.graph.proofs.DecodeLaws.{the_body}
+use Rattle.cones.proofs.BeginLaws.{kept_none, begun_skip, begun_follows, begun_body, begun_fact}
 use borrow.Author.Rules.{rules}
 use Rattle.cones.proofs.begin_at.Statement.{statement}
 use Rattle.cones.proofs.begin_at.Tie as tie
@@ -18,10 +18,10 @@ returns c =
     let c-wanted = c.before.wanted in
     let p1 = c.before.before.before.before.before in
     let c-pre = p1.requires in
-    (begun-skip c-pre.1.1 c-pre.0.2 c-wanted.ensures c-if1.true, kept-none)
+    (begun_skip c-pre.1.1 c-pre.0.2 c-wanted.ensures c-if1.true, kept_none)
 
 body-requires : tie.Need-body-requires
-unfolding theoryOf
+unfolding theory_of
 body-requires c κs =
     let p1 = c.before.before.before.before.before in
     let c-pre = p1.requires in
@@ -40,7 +40,7 @@ include-requires c κs =
     let p2 = p1.before.before.before.before in
     let c-pre = p2.requires in
     let c-args = p2.args in
-    begun-follows c-pre.1.1 c-pre.0.2 c-wanted.ensures c-if1.false (the-body c-args.graph.now c-args.p ∙ sym c-body.ensures) c-pre.0.0.well-formed c-if2.true
+    begun_follows c-pre.1.1 c-pre.0.2 c-wanted.ensures c-if1.false (the_body c-args.graph.now c-args.p ∙ sym c-body.ensures) c-pre.0.0.well_formed c-if2.true
 
 same-length-2 : tie.Need-same-length-2
 same-length-2 c = search rules
@@ -56,7 +56,7 @@ returns-2 c =
     let p2 = p1.before.before.before.before.before.before.before in
     let c-pre = p2.requires in
     let c-args = p2.args in
-    begun-body c-pre.1.1 c-pre.0.2 c-wanted.ensures c-if1.false (the-body c-args.graph.now c-args.p ∙ sym c-body.ensures) c-pre.0.0.well-formed c-if2.true c-include.ensures
+    begun_body c-pre.1.1 c-pre.0.2 c-wanted.ensures c-if1.false (the_body c-args.graph.now c-args.p ∙ sym c-body.ensures) c-pre.0.0.well_formed c-if2.true c-include.ensures
 
 add-put : tie.Need-overflow-add-put
 add-put c = search rules
@@ -81,7 +81,7 @@ returns-3 c =
     let p2 = p1.before.before.before.before.before.before.before in
     let c-pre = p2.requires in
     let c-args = p2.args in
-    rw c-put.ensures (begun-fact c-pre.1.1 c-pre.0.2 c-wanted.ensures c-if1.false (the-body c-args.graph.now c-args.p ∙ sym c-body.ensures) c-if2.false)
+    rw c-put.ensures (begun_fact c-pre.1.1 c-pre.0.2 c-wanted.ensures c-if1.false (the_body c-args.graph.now c-args.p ∙ sym c-body.ensures) c-if2.false)
 
 pub begin-at-spec : {M : Type 1} → statement M
 begin-at-spec =

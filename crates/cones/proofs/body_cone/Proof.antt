@@ -1,5 +1,5 @@
 use mathlib.Core.Path.{refl, sym}
-use Rattle.theory.specs.Edges.{bodyCone}
+use Rattle.theory.specs.Edges.{body_cone}
 use Rattle.theory.proofs.SetLaws.{clash}
 use Rattle.cones.specs.Cones.{picked}
 use borrow.Author.Rules.{rules}
@@ -12,7 +12,7 @@ find-requires c κs =
     (rw (sym c-pre.1.is) (c-pre), λ e. clash e refl)
 
 refuse-requires : tie.Need-refuse-requires
-unfolding bodyCone picked
+unfolding body_cone picked
 refuse-requires c κs =
     let c-find = c.before.before.before.find in
     let p1 = c.before.before.before.before.before.before.before in

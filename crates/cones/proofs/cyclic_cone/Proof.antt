@@ -1,5 +1,5 @@
 use mathlib.Core.Path.{sym}
-use Rattle.theory.specs.Founded.{cyclicCone}
+use Rattle.theory.specs.Founded.{cyclic_cone}
 use Rattle.cones.specs.Cones.{picked}
 use borrow.Author.Rules.{rules}
 use Rattle.cones.proofs.cyclic_cone.Statement.{statement}
@@ -14,7 +14,7 @@ same_length : tie.Need-same-length
 same_length c = search rules
 
 returns : tie.Need-returns
-unfolding cyclicCone picked
+unfolding cyclic_cone picked
 returns c =
     let c-find = c.before.before.find in
     let c-pre = c.before.before.before.before.before.before.requires in

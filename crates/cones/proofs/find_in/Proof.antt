@@ -3,17 +3,17 @@ use mathlib.Core.List.{[]}
 use Prim.Native.Nat.{◌-◌}
 use native.Mathlib.Omega.{arith}
 use lib.ListN.{length, take, drop}
-use Rattle.theory.specs.Words.{theoryOf}
-use Rattle.cones.specs.Cones.{wantedBy}
+use Rattle.theory.specs.Words.{theory_of}
+use Rattle.cones.specs.Cones.{wanted_by}
 use Rattle.cones.specs.Finding.{stage, Searching}
-use Rattle.cones.proofs.SearchLaws.{next_low, leaves-once, leaves-follow, leaves-done}
-use Rattle.cones.proofs.BeginLaws.{kept_trans, kept-flags, kept-end, begun-start, held-end}
+use Rattle.cones.proofs.SearchLaws.{next_low, leaves_once, leaves_follow, leaves_done}
+use Rattle.cones.proofs.BeginLaws.{kept_trans, kept_flags, kept_end, begun_start, held_end}
 use borrow.Author.Rules.{rules}
 use Rattle.cones.proofs.find_in.Statement.{statement}
 use Rattle.cones.proofs.find_in.Tie as tie
 
 abbrev invariant-loop : tie.invariant-loop
-invariant-loop graph work₀ b cyclic-only c bodies nodes₀ next₀ work nodes next = Searching 65536 b (stage (theoryOf graph) (wantedBy (theoryOf graph) cyclic-only) (theoryOf graph).producers next (drop b.fact_rows work₀)) work nodes [] × (length work ≡ length work₀) × (take b.states work ≡ take b.states work₀)
+invariant-loop graph work₀ b cyclic-only c bodies nodes₀ next₀ work nodes next = Searching 65536 b (stage (theory_of graph) (wanted_by (theory_of graph) cyclic-only) (theory_of graph).producers next (drop b.fact_rows work₀)) work nodes [] × (length work ≡ length work₀) × (take b.states work ≡ take b.states work₀)
 
 abbrev decreases-loop : tie.decreases-loop
 decreases-loop graph work₀ b cyclic-only c bodies nodes₀ next₀ work nodes next = b.nodes - next
@@ -29,7 +29,7 @@ begin-requires c κs =
     let p1 = c.before.before.before.before.before.before.before in
     let c-pre = p1.requires in
     let c-args = p1.args in
-    ((c-pre.0.0, rw c-clear-marks.ensures.0.size c-pre.0.1), ((λ m. kept-flags (theoryOf c-args.graph.now) c-clear-marks.ensures.0 (c-pre.1 m)), begun-start (omega arith) c-pre.0.0 (rw c-clear-marks.ensures.0.size c-pre.0.1) c-args.cyclic-only c-clear-marks.ensures.1))
+    ((c-pre.0.0, rw c-clear-marks.ensures.0.size c-pre.0.1), ((λ m. kept-flags (theory_of c-args.graph.now) c-clear-marks.ensures.0 (c-pre.1 m)), begun_start (omega arith) c-pre.0.0 (rw c-clear-marks.ensures.0.size c-pre.0.1) c-args.cyclic-only c-clear-marks.ensures.1))
 
 loop-holds : tie.Need-loop-init invariant-loop decreases-loop
 loop-holds c =
@@ -47,7 +47,7 @@ at-requires c κs =
     let s = c-loop.invariant.0 in let l = s.laid in let e = s.ends in let r = s.room in omega arith
 
 first-leaf-requires : tie.Need-first-leaf-requires invariant-loop decreases-loop
-unfolding theoryOf
+unfolding theory_of
 first-leaf-requires c κs =
     let c-at = c.before.at in
     let p1 = c.before.before.before.before in
@@ -66,7 +66,7 @@ include-chain-requires c κs =
     let c-loop = p1.before.loop in
     let p2 = p1.before.before.before.before.before.before.before.before.before.before.before.before in
     let c-pre = p2.requires in
-    ((c-pre.0.0, leaves-once c-pre.0.0 c-loop.invariant.0 c-loop-test.true c-at.ensures.0 c-first-leaf.ensures), leaves-follow c-pre.0.0 c-loop.invariant.0 c-loop-test.true c-at.ensures.0 c-first-leaf.ensures)
+    ((c-pre.0.0, leaves_once c-pre.0.0 c-loop.invariant.0 c-loop-test.true c-at.ensures.0 c-first-leaf.ensures), leaves_follow c-pre.0.0 c-loop.invariant.0 c-loop-test.true c-at.ensures.0 c-first-leaf.ensures)
 
 add-next : tie.Need-overflow-add-next invariant-loop decreases-loop
 add-next c =
@@ -91,7 +91,7 @@ loop-again c =
     let c-loop = p2.loop in
     let p3 = p2.before.before.before.before.before.before.before.before.before.before.before in
     let c-pre = p3.requires in
-    (leaves-done c-pre.0.0 c-loop.invariant.0 c-loop-test.true c-at.ensures.0 c-first-leaf.ensures c-include-chain.ensures, c-include-chain.ensures.size ∙ c-loop.invariant.1, c-include-chain.ensures.frame ∙ c-loop.invariant.2)
+    (leaves_done c-pre.0.0 c-loop.invariant.0 c-loop-test.true c-at.ensures.0 c-first-leaf.ensures c-include-chain.ensures, c-include-chain.ensures.size ∙ c-loop.invariant.1, c-include-chain.ensures.frame ∙ c-loop.invariant.2)
 
 same_length : tie.Need-same-length invariant-loop decreases-loop
 same_length c = search rules
@@ -104,7 +104,7 @@ returns c =
     let c-begin = p1.begin in
     let p2 = p1.before.before.before.before in
     let c-clear-marks = p2.clear-marks in
-    (held-end c-begin.ensures.0 c-loop.invariant.0 c-loop-test.false, kept_trans (kept_trans c-clear-marks.ensures.0 c-begin.ensures.1) (kept-end c-loop.invariant.0 c-loop.invariant.1 c-loop.invariant.2))
+    (held_end c-begin.ensures.0 c-loop.invariant.0 c-loop-test.false, kept_trans (kept_trans c-clear-marks.ensures.0 c-begin.ensures.1) (kept_end c-loop.invariant.0 c-loop.invariant.1 c-loop.invariant.2))
 
 pub find-in-spec : {M : Type 1} → statement M
 find-in-spec =

@@ -1,12 +1,12 @@
 use mathlib.Core.Path.{◌∙◌}
-use Rattle.theory.specs.Words.{theoryOf}
-use Rattle.cones.proofs.HeadLaws.{heads-of, wanted-some, wanted-cyclic}
+use Rattle.theory.specs.Words.{theory_of}
+use Rattle.cones.proofs.HeadLaws.{heads_of, wanted_some, wanted_cyclic}
 use Rattle.cones.proofs.wanted.Statement.{statement}
 use Rattle.cones.proofs.wanted.Tie as tie
 use Rattle.graph.proofs.first_head.Reads as first-head-reads
 
 first-head-requires : tie.Need-first-head-requires
-unfolding theoryOf
+unfolding theory_of
 first-head-requires c κs =
     let c-pre = c.before.before.requires in
     record { size = c-pre.0.0.size; below = c-pre.0.2 }
@@ -18,7 +18,7 @@ cyclic-head-requires c κs =
     let p1 = c.before.before.before.before in
     let c-pre = p1.requires in
     let c-args = p1.args in
-    ((c-pre.0.0, c-pre.0.1, c-pre.1 c-if1.true), heads-of c-args.graph.now c-args.p c-first-head.ensures c-pre.0.0 c-pre.0.2)
+    ((c-pre.0.0, c-pre.0.1, c-pre.1 c-if1.true), heads_of c-args.graph.now c-args.p c-first-head.ensures c-pre.0.0 c-pre.0.2)
 
 returns : tie.Need-returns
 returns c =
@@ -27,7 +27,7 @@ returns c =
     let c-first-head = c.before.before.first_head in
     let p1 = c.before.before.before.before.before in
     let c-args = p1.args in
-    c-cyclic-head.ensures ∙ wanted-cyclic c-args.graph.now c-args.p c-first-head.ensures c-if1.true
+    c-cyclic-head.ensures ∙ wanted_cyclic c-args.graph.now c-args.p c-first-head.ensures c-if1.true
 
 returns-2 : tie.Need-returns-2
 returns-2 c =
@@ -36,7 +36,7 @@ returns-2 c =
     let p1 = c.before.before.before.before in
     let c-args = p1.args in
     let c-pre = p1.requires in
-    wanted-some c-args.graph.now c-args.p c-first-head.ensures c-pre.0.0 c-pre.0.2 c-if1.false
+    wanted_some c-args.graph.now c-args.p c-first-head.ensures c-pre.0.0 c-pre.0.2 c-if1.false
 
 pub wanted-spec : {M : Type 1} → statement M
 wanted-spec =

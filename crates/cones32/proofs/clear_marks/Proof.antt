@@ -1,6 +1,6 @@
 -- Written by tools/widen from crates/cones/proofs/clear_marks/Proof.antt: edit that one.
 use Rattle.area.proofs.FillLaws.{filled}
-use Rattle.cones.proofs.BeginLaws.{marks-part, cleared-kept, cleared-marks}
+use Rattle.cones.proofs.BeginLaws.{marks_part, cleared_kept, cleared_marks}
 use borrow.Author.Rules.{rules}
 use Rattle.cones32.proofs.clear_marks.Statement.{statement}
 use Rattle.cones32.proofs.clear_marks.Tie as tie
@@ -34,8 +34,8 @@ returns c =
     let c-clear = c.before.before.clear in
     let p1 = c.before.before.before.before.before in
     let c-pre = p1.before.before.requires in
-    let f = filled (marks-part c-pre.0 c-pre.1) c-clear.ensures in
-    (cleared-kept c-pre.0 f, cleared-marks c-pre.0 f)
+    let f = filled (marks_part c-pre.0 c-pre.1) c-clear.ensures in
+    (cleared_kept c-pre.0 f, cleared_marks c-pre.0 f)
 
 pub clear-marks-spec : {M : Type 1} → statement M
 clear-marks-spec =

@@ -1,6 +1,6 @@
 -- Written by tools/widen from crates/cones/proofs/include/Proof.antt: edit that one.
 use native.Mathlib.Omega.{arith}
-use Rattle.cones.proofs.SearchLaws.{search-ready, search-include}
+use Rattle.cones.proofs.SearchLaws.{search_ready, search_include}
 use borrow.Author.Rules.{rules}
 use Rattle.cones32.proofs.include.Statement.{statement}
 use Rattle.cones32.proofs.include.Tie as tie
@@ -10,23 +10,23 @@ use Rattle.graph32.proofs.at.Reads as at_reads
 add-mark : tie.Need-overflow-add-mark
 add-mark c =
     let c-pre = c.before.before.requires in
-    let r = search-ready (c-pre) in let l = r.laid in omega arith
+    let r = search_ready (c-pre) in let l = r.laid in omega arith
 
 add-mark-2 : tie.Need-overflow-add-mark-2
 add-mark-2 c =
     let c-pre = c.before.before.before.requires in
-    let r = search-ready (c-pre) in let l = r.laid in omega arith
+    let r = search_ready (c-pre) in let l = r.laid in omega arith
 
 at-requires : tie.Need-at-requires
 at-requires c κs =
     let c-pre = c.before.before.before.before.requires in
-    let r = search-ready (c-pre) in let l = r.laid in omega arith
+    let r = search_ready (c-pre) in let l = r.laid in omega arith
 
 put-requires : tie.Need-put-requires
 put-requires c κs =
     let p1 = c.before.before.before.before.before in
     let c-pre = p1.before.requires in
-    let r = search-ready (c-pre) in let l = r.laid in (omega arith, omega arith)
+    let r = search_ready (c-pre) in let l = r.laid in (omega arith, omega arith)
 
 add-put : tie.Need-overflow-add-put
 add-put c = search rules
@@ -35,7 +35,7 @@ put-requires-2 : tie.Need-put-requires-2
 put-requires-2 c κs =
     let p1 = c.before.before.before.before.before.before.before.before.before.before in
     let c-pre = p1.before.requires in
-    let r = search-ready (c-pre) in let l = r.laid in (search rules, omega arith)
+    let r = search_ready (c-pre) in let l = r.laid in (search rules, omega arith)
 
 add-result : tie.Need-overflow-add-result
 add-result c = search rules
@@ -46,7 +46,7 @@ sub-result c =
     let c-at = p1.at in
     let p2 = p1.before.before.before.before in
     let c-pre = p2.before.requires in
-    let r = search-ready (c-pre) in let l = r.laid in let m = r.mark in let e = c-at.ensures.0 in omega arith
+    let r = search_ready (c-pre) in let l = r.laid in let m = r.mark in let e = c-at.ensures.0 in omega arith
 
 same_length : tie.Need-same-length
 same_length c = search rules
@@ -59,7 +59,7 @@ returns c =
     let c-at = p1.before.before.at in
     let p2 = p1.before.before.before.before.before.before in
     let c-pre = p2.before.requires in
-    rw (c-put2.ensures, c-put.ensures) (search-include (search-ready (c-pre)) c-at.result c-at.ensures.0)
+    rw (c-put2.ensures, c-put.ensures) (search_include (search_ready (c-pre)) c-at.result c-at.ensures.0)
 
 pub include-spec : {M : Type 1} → statement M
 include-spec =

@@ -6,9 +6,9 @@ use lib.ListN.{length}
 use Rattle.theory.specs.Words.{chain}
 use Rattle.theory.specs.Links.{MeetsOnce}
 use Rattle.theory.specs.Drive.{Drives}
-use Rattle.theory.proofs.ChainLaws.{once-next, chain-end, chain-falls}
-use Rattle.theory.proofs.DriveLaws.{drives-none, turn-next, turn_more, turn-done, chain-turn}
-use Rattle.graph.proofs.DecodeLaws.{value-of, next-of, link-in}
+use Rattle.theory.proofs.ChainLaws.{once_next, chain_end, chain_falls}
+use Rattle.theory.proofs.DriveLaws.{drives_none, turn_next, turn_more, turn_done, chain_turn}
+use Rattle.graph.proofs.DecodeLaws.{value_of_lem, next_of_lem, link_in}
 use Rattle.cones.specs.Finding.{Searching}
 use Rattle.cones32.proofs.include_chain.Statement.{statement}
 use Rattle.cones32.proofs.include_chain.Tie as tie
@@ -28,7 +28,7 @@ loop-holds : tie.Need-loop-init invariant-loop decreases-loop
 loop-holds c =
     let c-pre = c.before.before.before.requires in
     let c-args = c.before.before.before.args in
-    (c-pre.0.1, drives-none (Searching 4294967296 c-args.b))
+    (c-pre.0.1, drives_none (Searching 4294967296 c-args.b))
 
 value-requires : tie.Need-value-requires invariant-loop decreases-loop
 value-requires c κs =
@@ -36,7 +36,7 @@ value-requires c κs =
     let c-links-from = c.before.before.links-from in
     let p1 = c.before.before.before.before.before in
     let c-pre = p1.requires in
-    link-in c-links-from.ensures c-pre.0.0 c-loop.invariant.0 (λ z. omega arith)
+    link_in c-links-from.ensures c-pre.0.0 c-loop.invariant.0 (λ z. omega arith)
 
 next-requires : tie.Need-next-requires invariant-loop decreases-loop
 next-requires c κs =
@@ -44,7 +44,7 @@ next-requires c κs =
     let c-links-from = c.before.before.before.links-from in
     let p1 = c.before.before.before.before.before.before in
     let c-pre = p1.requires in
-    link-in c-links-from.ensures c-pre.0.0 c-loop.invariant.0 (λ z. omega arith)
+    link_in c-links-from.ensures c-pre.0.0 c-loop.invariant.0 (λ z. omega arith)
 
 include-requires : tie.Need-include-requires invariant-loop decreases-loop
 include-requires c κs =
@@ -55,7 +55,7 @@ include-requires c κs =
     let p2 = p1.before.before.before.before in
     let c-args = p2.args in
     let c-pre = p2.requires in
-    turn-next (Searching 4294967296 c-args.b) (λ l. l) (λ x. x ∷ []) (λ x xs. refl) c-loop.invariant.1 (chain-turn c-args.graph.now c-loop.invariant.0 (λ z. omega arith) (value-of c-links-from.ensures c-loop.l c-value.ensures (omega arith)) refl) c-pre.1
+    turn_next (Searching 4294967296 c-args.b) (λ l. l) (λ x. x ∷ []) (λ x xs. refl) c-loop.invariant.1 (chain_turn c-args.graph.now c-loop.invariant.0 (λ z. omega arith) (value_of_lem c-links-from.ensures c-loop.l c-value.ensures (omega arith)) refl) c-pre.1
 
 loop-less : tie.Need-loop-smaller invariant-loop decreases-loop
 loop-less c =
@@ -65,7 +65,7 @@ loop-less c =
     let p2 = p1.before.before.before.before in
     let c-links-from = p2.links-from in
     let c-args = p2.before.before.before.args in
-    rw (next-of c-links-from.ensures c-loop.l c-next.ensures (omega arith)) (chain-falls c-args.graph.now c-loop.invariant.0 (λ z. omega arith))
+    rw (next_of_lem c-links-from.ensures c-loop.l c-next.ensures (omega arith)) (chain_falls c-args.graph.now c-loop.invariant.0 (λ z. omega arith))
 
 loop-again : tie.Need-loop-preserved invariant-loop decreases-loop
 loop-again c =
@@ -77,8 +77,8 @@ loop-again c =
     let p2 = p1.before.before.before.before in
     let c-links-from = p2.links-from in
     let c-args = p2.before.before.before.args in (
-      rw (next-of c-links-from.ensures c-loop.l c-next.ensures (omega arith)) (once-next c-args.graph.now c-loop.invariant.0 (λ z. omega arith)),
-      turn_more (Searching 4294967296 c-args.b) (λ l. l) (λ x. x ∷ []) (λ x xs. refl) c-loop.invariant.1 (chain-turn c-args.graph.now c-loop.invariant.0 (λ z. omega arith) (value-of c-links-from.ensures c-loop.l c-value.ensures (omega arith)) (next-of c-links-from.ensures c-loop.l c-next.ensures (omega arith))) c-include.ensures,
+      rw (next_of_lem c-links-from.ensures c-loop.l c-next.ensures (omega arith)) (once_next c-args.graph.now c-loop.invariant.0 (λ z. omega arith)),
+      turn_more (Searching 4294967296 c-args.b) (λ l. l) (λ x. x ∷ []) (λ x xs. refl) c-loop.invariant.1 (chain_turn c-args.graph.now c-loop.invariant.0 (λ z. omega arith) (value_of_lem c-links-from.ensures c-loop.l c-value.ensures (omega arith)) (next_of_lem c-links-from.ensures c-loop.l c-next.ensures (omega arith))) c-include.ensures,
     )
 
 same_length : tie.Need-same-length invariant-loop decreases-loop
@@ -91,7 +91,7 @@ returns c =
     let c-loop = c.before.loop in
     let p1 = c.before.before.before.before.before in
     let c-args = p1.args in
-    let e : c-loop.l ≡ 0 = omega arith in turn-done (Searching 4294967296 c-args.b) (λ l. l) (λ x. x ∷ []) (λ x xs. refl) c-loop.invariant.1 (rw e (chain-end c-args.graph.now)) refl
+    let e : c-loop.l ≡ 0 = omega arith in turn_done (Searching 4294967296 c-args.b) (λ l. l) (λ x. x ∷ []) (λ x xs. refl) c-loop.invariant.1 (rw e (chain_end c-args.graph.now)) refl
 
 pub include-chain-spec : {M : Type 1} → statement M
 include-chain-spec =

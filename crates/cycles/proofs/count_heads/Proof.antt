@@ -3,25 +3,25 @@ use mathlib.Core.List.{[]}
 use Prim.Native.Nat.{◌+◌}
 use native.Mathlib.Omega.{arith}
 use lib.ListN.{length}
-use Rattle.theory.specs.Words.{chain, theoryOf}
+use Rattle.theory.specs.Words.{chain, theory_of}
 use Rattle.theory.specs.Links.{MeetsOnce}
-use Rattle.theory.proofs.ChainLaws.{once-next, chain-end, chain-falls}
-use Rattle.theory.proofs.DriveLaws.{chain-turn}
-use Rattle.graph.proofs.DecodeLaws.{the-body, value-of, next-of, link-in}
+use Rattle.theory.proofs.ChainLaws.{once_next, chain_end, chain_falls}
+use Rattle.theory.proofs.DriveLaws.{chain_turn}
+use Rattle.graph.proofs.DecodeLaws.{the_body, value_of_lem, next_of_lem, link_in}
 use Rattle.cycles.specs.Held.{Counting}
-use Rattle.cycles.proofs.LoopLaws.{fact-counted, heads-start, head-place, head-fits, head-counted}
+use Rattle.cycles.proofs.LoopLaws.{fact_counted, heads_start, head_place, head_fits, head_counted}
 use borrow.Author.Rules.{rules}
 use Rattle.cycles.proofs.count_heads.Statement.{statement}
 use Rattle.cycles.proofs.count_heads.Tie as tie
 
 abbrev invariant-loop : tie.invariant-loop
-invariant-loop graph work₀ b p from l₀ work l = (length work ≡ length work₀) × MeetsOnce graph l × Counting 65536 (theoryOf graph) b work (p + 1) (chain graph l)
+invariant-loop graph work₀ b p from l₀ work l = (length work ≡ length work₀) × MeetsOnce graph l × Counting 65536 (theory_of graph) b work (p + 1) (chain graph l)
 
 abbrev decreases-loop : tie.decreases-loop
 decreases-loop graph work₀ b p from l₀ work l = length (chain graph l)
 
 body-requires : tie.Need-body-requires invariant-loop decreases-loop
-unfolding theoryOf
+unfolding theory_of
 body-requires c κs =
     let c-pre = c.before.before.requires in
     record { size = c-pre.0.size; below = c-pre.1 }
@@ -33,7 +33,7 @@ returns c =
     let p1 = c.before.before.before.before in
     let c-pre = p1.requires in
     let c-args = p1.args in
-    fact-counted c-pre.2 c-pre.1 (the-body c-args.graph.now c-args.p ∙ sym c-body.ensures ∙ c-if1.true)
+    fact_counted c-pre.2 c-pre.1 (the_body c-args.graph.now c-args.p ∙ sym c-body.ensures ∙ c-if1.true)
 
 links-from-requires : tie.Need-links-from-requires invariant-loop decreases-loop
 links-from-requires c κs =
@@ -42,14 +42,14 @@ links-from-requires c κs =
     c-pre.0.size
 
 first-head-requires : tie.Need-first-head-requires invariant-loop decreases-loop
-unfolding theoryOf
+unfolding theory_of
 first-head-requires c κs =
     let p1 = c.before.before.before.before.before in
     let c-pre = p1.requires in
     record { size = c-pre.0.size; below = c-pre.1 }
 
 loop-holds : tie.Need-loop-init invariant-loop decreases-loop
-unfolding theoryOf
+unfolding theory_of
 loop-holds c =
     let c-first-head = c.first_head in
     let c-if1 = c.before.before.if1 in
@@ -57,7 +57,7 @@ loop-holds c =
     let p1 = c.before.before.before.before.before.before in
     let c-pre = p1.requires in
     let c-args = p1.args in
-    rw c-first-head.ensures (refl, c-pre.0.head-chain c-args.p c-pre.1, heads-start c-pre.2 c-pre.1 (λ z. c-if1.false (c-body.ensures ∙ sym (the-body c-args.graph.now c-args.p) ∙ z)))
+    rw c-first-head.ensures (refl, c-pre.0.head_chain c-args.p c-pre.1, heads_start c-pre.2 c-pre.1 (λ z. c-if1.false (c-body.ensures ∙ sym (the_body c-args.graph.now c-args.p) ∙ z)))
 
 value-requires : tie.Need-value-requires invariant-loop decreases-loop
 value-requires c κs =
@@ -65,7 +65,7 @@ value-requires c κs =
     let c-links-from = c.before.before.before.links-from in
     let p1 = c.before.before.before.before.before.before.before.before in
     let c-pre = p1.requires in
-    link-in c-links-from.ensures c-pre.0 c-loop.invariant.1 (omega arith)
+    link_in c-links-from.ensures c-pre.0 c-loop.invariant.1 (omega arith)
 
 next-requires : tie.Need-next-requires invariant-loop decreases-loop
 next-requires c κs =
@@ -74,7 +74,7 @@ next-requires c κs =
     let c-links-from = p1.links-from in
     let p2 = p1.before.before.before.before.before in
     let c-pre = p2.requires in
-    link-in c-links-from.ensures c-pre.0 c-loop.invariant.1 (omega arith)
+    link_in c-links-from.ensures c-pre.0 c-loop.invariant.1 (omega arith)
 
 add-add : tie.Need-overflow-add-add invariant-loop decreases-loop
 add-add c =
@@ -85,7 +85,7 @@ add-add c =
     let c-links-from = p1.before.before.links-from in
     let p2 = p1.before.before.before.before.before.before.before in
     let c-args = p2.args in
-    let l = head-place c-loop.invariant.2 (chain-turn c-args.graph.now c-loop.invariant.1 (omega arith) (value-of c-links-from.ensures c-loop.l c-value.ensures (omega arith)) (next-of c-links-from.ensures c-loop.l c-next.ensures (omega arith))) in
+    let l = head_place c-loop.invariant.2 (chain_turn c-args.graph.now c-loop.invariant.1 (omega arith) (value_of_lem c-links-from.ensures c-loop.l c-value.ensures (omega arith)) (next_of_lem c-links-from.ensures c-loop.l c-next.ensures (omega arith))) in
     omega arith
 
 add-requires : tie.Need-add-requires invariant-loop decreases-loop
@@ -97,8 +97,8 @@ add-requires c κs =
     let c-links-from = p1.before.before.links-from in
     let p2 = p1.before.before.before.before.before.before.before in
     let c-args = p2.args in
-    let e = chain-turn c-args.graph.now c-loop.invariant.1 (omega arith) (value-of c-links-from.ensures c-loop.l c-value.ensures (omega arith)) (next-of c-links-from.ensures c-loop.l c-next.ensures (omega arith)) in
-    (head-place c-loop.invariant.2 e, head-fits c-loop.invariant.2 e)
+    let e = chain_turn c-args.graph.now c-loop.invariant.1 (omega arith) (value_of_lem c-links-from.ensures c-loop.l c-value.ensures (omega arith)) (next_of_lem c-links-from.ensures c-loop.l c-next.ensures (omega arith)) in
+    (head_place c-loop.invariant.2 e, head_fits c-loop.invariant.2 e)
 
 loop-less : tie.Need-loop-smaller invariant-loop decreases-loop
 loop-less c =
@@ -109,7 +109,7 @@ loop-less c =
     let c-links-from = p2.links-from in
     let p3 = p2.before.before.before.before.before in
     let c-args = p3.args in
-    rw (next-of c-links-from.ensures c-loop.l c-next.ensures (omega arith)) (chain-falls c-args.graph.now c-loop.invariant.1 (omega arith))
+    rw (next_of_lem c-links-from.ensures c-loop.l c-next.ensures (omega arith)) (chain_falls c-args.graph.now c-loop.invariant.1 (omega arith))
 
 loop-again : tie.Need-loop-preserved invariant-loop decreases-loop
 loop-again c =
@@ -122,8 +122,8 @@ loop-again c =
     let c-links-from = p2.links-from in
     let p3 = p2.before.before.before.before.before in
     let c-args = p3.args in
-    let e = chain-turn c-args.graph.now c-loop.invariant.1 (omega arith) (value-of c-links-from.ensures c-loop.l c-value.ensures (omega arith)) (next-of c-links-from.ensures c-loop.l c-next.ensures (omega arith)) in
-    (search rules, rw (next-of c-links-from.ensures c-loop.l c-next.ensures (omega arith)) (once-next c-args.graph.now c-loop.invariant.1 (omega arith)), rw (c-add.ensures.1, c-add.ensures.0) (head-counted c-loop.invariant.2 e))
+    let e = chain_turn c-args.graph.now c-loop.invariant.1 (omega arith) (value_of_lem c-links-from.ensures c-loop.l c-value.ensures (omega arith)) (next_of_lem c-links-from.ensures c-loop.l c-next.ensures (omega arith)) in
+    (search rules, rw (next_of_lem c-links-from.ensures c-loop.l c-next.ensures (omega arith)) (once_next c-args.graph.now c-loop.invariant.1 (omega arith)), rw (c-add.ensures.1, c-add.ensures.0) (head_counted c-loop.invariant.2 e))
 
 same_length : tie.Need-same-length invariant-loop decreases-loop
 same_length c = search rules
@@ -134,7 +134,7 @@ returns-2 c =
     let p1 = c.before.before.before.before.before.before.before.before in
     let c-args = p1.args in
     let e : c-loop.l ≡ 0 = omega arith in
-    let z : chain c-args.graph.now c-loop.l ≡ [] = rw e (chain-end c-args.graph.now) in rw z at c-loop.invariant.2
+    let z : chain c-args.graph.now c-loop.l ≡ [] = rw e (chain_end c-args.graph.now) in rw z at c-loop.invariant.2
 
 pub count-heads-spec : {M : Type 1} → statement M
 count-heads-spec =

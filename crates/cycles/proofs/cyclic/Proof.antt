@@ -1,7 +1,7 @@
 use mathlib.Core.Path.{◌≡◌, sym, ◌∙◌}
 use native.Mathlib.Omega.{arith}
 use lib.ListN.{length}
-use Rattle.cycles.proofs.AnswerLaws.{tables-looked, running, answer}
+use Rattle.cycles.proofs.AnswerLaws.{tables_looked, running, answer}
 use borrow.Author.Rules.{rules}
 use Rattle.cycles.proofs.cyclic.Statement.{statement}
 use Rattle.cycles.proofs.cyclic.Tie as tie
@@ -35,7 +35,7 @@ settle-all-requires c κs =
     let c-pre = p3.requires in
     let ws = p3.args.graph.now in
     let e : length c-look-all.new.0 ≡ length p3.args.work.now = search rules in
-    rw (e, sym c-bases-of.ensures.is) ((c-pre.0, c-bases-of.ensures, tables-looked ws c-count-all.ensures c-look-all.ensures), (_, running ws c-count-all.ensures c-look-all.ensures))
+    rw (e, sym c-bases-of.ensures.is) ((c-pre.0, c-bases-of.ensures, tables_looked ws c-count-all.ensures c-look-all.ensures), (_, running ws c-count-all.ensures c-look-all.ensures))
 
 add-result : tie.Need-overflow-add-result
 add-result c =

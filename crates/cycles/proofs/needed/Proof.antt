@@ -5,9 +5,9 @@ use lib.ListN.{length, replicate}
 use Rattle.refusals.specs.Refusals.{answer_of}
 use Rattle.refusals.proofs.AcceptedLaws.{accepted}
 use Rattle.theory.specs.Accepted.{edition1}
-use Rattle.area.proofs.LayoutLaws.{edition1-roomy}
+use Rattle.area.proofs.LayoutLaws.{edition1_roomy}
 use Rattle.cycles.specs.Outcome.{loops}
-use Rattle.cycles.proofs.OutcomeLaws.{graph-refused, work-refused, answered}
+use Rattle.cycles.proofs.OutcomeLaws.{graph_refused, work_refused, answered}
 use borrow.Author.Rules.{rules}
 use Rattle.cycles.proofs.needed.Statement.{statement}
 use Rattle.cycles.proofs.needed.Tie as tie
@@ -24,7 +24,7 @@ returns c =
     let c-check = c.before.check in
     let p1 = c.before.before.before.before in
     let c-args = p1.args in
-    let r = graph-refused edition1 c-args.graph.now c-args.work.now {c = c-check.result} c-check.ensures (λ e. miss (1 ∷ 2 ∷ 3 ∷ 4 ∷ 5 ∷ 6 ∷ 7 ∷ 8 ∷ 9 ∷ 10 ∷ []) 0 tt (rw e at c-match.keys2)) in (r.answer, (r.work, r.walk))
+    let r = graph_refused edition1 c-args.graph.now c-args.work.now {c = c-check.result} c-check.ensures (λ e. miss (1 ∷ 2 ∷ 3 ∷ 4 ∷ 5 ∷ 6 ∷ 7 ∷ 8 ∷ 9 ∷ 10 ∷ []) 0 tt (rw e at c-match.keys2)) in (r.answer, (r.work, r.walk))
 
 words-requires : tie.Need-words-requires
 words-requires c κs =
@@ -40,7 +40,7 @@ returns-2 c =
     let c-enum-told = c.before.before.enum_told in
     let c-check = c.before.before.before.before.check in
     let c-args = c.before.before.before.before.before.before.before.args in
-    let r = work-refused edition1 c-args.graph.now c-args.work.now (sym c-check.ensures ∙ ap answer_of c-enum-told.given.1) (λ e. c-if1.true (e ∙ sym c-words.ensures)) in (r.answer, (r.work, r.walk))
+    let r = work_refused edition1 c-args.graph.now c-args.work.now (sym c-check.ensures ∙ ap answer_of c-enum-told.given.1) (λ e. c-if1.true (e ∙ sym c-words.ensures)) in (r.answer, (r.work, r.walk))
 
 cyclic-requires : tie.Need-cyclic-requires
 cyclic-requires c κs =
@@ -50,7 +50,7 @@ cyclic-requires c κs =
     let c-check = c.before.before.before.before.before.check in
     let c-args = c.before.before.before.before.before.before.before.before.args in
     let a = accepted edition1 c-args.graph.now (sym c-check.ensures ∙ ap answer_of c-enum-told.given.1) in
-    (a, edition1-roomy a (c-if1.false ∙ c-words.ensures))
+    (a, edition1_roomy a (c-if1.false ∙ c-words.ensures))
 
 wipe-requires : tie.Need-wipe-requires
 wipe-requires c κs = search rules

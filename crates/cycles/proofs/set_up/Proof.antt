@@ -1,7 +1,7 @@
 use native.Mathlib.Omega.{arith}
 use mathlib.Core.Path.{◌∙◌}
 use Rattle.area.proofs.FillLaws.{filled}
-use Rattle.cycles.proofs.SetupLaws.{counts-part, set-up-started}
+use Rattle.cycles.proofs.SetupLaws.{counts_part, set_up_started}
 use borrow.Author.Rules.{rules}
 use Rattle.cycles.proofs.set_up.Statement.{statement}
 use Rattle.cycles.proofs.set_up.Tie as tie
@@ -79,8 +79,8 @@ returns c =
     let c-build-in = p3.build-in in
     let p4 = p3.before.before.before.before in
     let c-pre = p4.requires in
-    let f = filled (counts-part c-pre.1.laid c-pre.1.ends (c-build-in3.ensures.size ∙ c-build-in2.ensures.size ∙ c-build-in.ensures.size)) c-clear.ensures in
-    set-up-started c-pre.0 (omega arith) (omega arith) c-pre.1 c-build-in.ensures c-build-in2.ensures c-build-in3.ensures f
+    let f = filled (counts_part c-pre.1.laid c-pre.1.ends (c-build-in3.ensures.size ∙ c-build-in2.ensures.size ∙ c-build-in.ensures.size)) c-clear.ensures in
+    set_up_started c-pre.0 (omega arith) (omega arith) c-pre.1 c-build-in.ensures c-build-in2.ensures c-build-in3.ensures f
 
 pub set-up-spec : {M : Type 1} → statement M
 set-up-spec =

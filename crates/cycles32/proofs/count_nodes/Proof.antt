@@ -3,15 +3,15 @@ use mathlib.Core.Path.{◌≡◌, refl}
 use Prim.Native.Nat.{◌-◌, ◌≤◌}
 use native.Mathlib.Omega.{arith}
 use lib.ListN.{length}
-use Rattle.theory.specs.Words.{theoryOf}
+use Rattle.theory.specs.Words.{theory_of}
 use Rattle.cycles.specs.Held.{Started}
-use Rattle.cycles.proofs.LoopLaws.{node-place, node-fits, node-counted}
+use Rattle.cycles.proofs.LoopLaws.{node_place, node_fits, node_counted}
 use borrow.Author.Rules.{rules}
 use Rattle.cycles32.proofs.count_nodes.Statement.{statement}
 use Rattle.cycles32.proofs.count_nodes.Tie as tie
 
 abbrev invariant-loop : tie.invariant-loop
-invariant-loop graph work₀ b n₀ work n = (length work ≡ length work₀) × (n ≤ b.nodes) × Started 4294967296 (theoryOf graph) b work n
+invariant-loop graph work₀ b n₀ work n = (length work ≡ length work₀) × (n ≤ b.nodes) × Started 4294967296 (theory_of graph) b work n
 
 abbrev decreases-loop : tie.decreases-loop
 decreases-loop graph work₀ b n₀ work n = b.nodes - n
@@ -25,13 +25,13 @@ add-put : tie.Need-overflow-add-put invariant-loop decreases-loop
 add-put c =
     let c-if1 = c.before.before.if1 in
     let c-loop = c.before.before.before.before.loop in
-    let p = node-place c-loop.invariant.2 c-if1.true in omega arith
+    let p = node_place c-loop.invariant.2 c-if1.true in omega arith
 
 add-put-2 : tie.Need-overflow-add-put-2 invariant-loop decreases-loop
 add-put-2 c =
     let c-if1 = c.before.before.before.if1 in
     let c-loop = c.before.before.before.before.before.loop in
-    let p = node-place c-loop.invariant.2 c-if1.true in omega arith
+    let p = node_place c-loop.invariant.2 c-if1.true in omega arith
 
 degree-requires : tie.Need-degree-requires invariant-loop decreases-loop
 degree-requires c κs =
@@ -47,7 +47,7 @@ put-requires c κs =
     let p1 = c.before.before.before.before in
     let c-if1 = p1.if1 in
     let c-loop = p1.before.before.loop in
-    (node-place c-loop.invariant.2 c-if1.true, node-fits c-loop.invariant.2 c-if1.true c-degree.ensures)
+    (node_place c-loop.invariant.2 c-if1.true, node_fits c-loop.invariant.2 c-if1.true c-degree.ensures)
 
 add-n : tie.Need-overflow-add-n invariant-loop decreases-loop
 add-n c =
@@ -66,7 +66,7 @@ loop-again c =
     let p1 = c.before.before.before.before.before.before.before in
     let c-if1 = p1.if1 in
     let c-loop = p1.before.before.loop in
-    (search rules, omega arith, rw c-put.ensures (node-counted c-loop.invariant.2 c-if1.true c-degree.ensures))
+    (search rules, omega arith, rw c-put.ensures (node_counted c-loop.invariant.2 c-if1.true c-degree.ensures))
 
 same_length : tie.Need-same-length invariant-loop decreases-loop
 same_length c = search rules

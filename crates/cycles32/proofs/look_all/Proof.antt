@@ -4,7 +4,7 @@ use mathlib.Core.Logic.{⊎_elim}
 use Prim.Native.Nat.{◌+◌, ◌-◌, ◌≤◌}
 use native.Mathlib.Omega.{arith}
 use Rattle.cycles.specs.Held.{Looked}
-use Rattle.cycles.proofs.LoopLaws.{look-start, look-room, looked, added}
+use Rattle.cycles.proofs.LoopLaws.{look_start, look_room, looked, added}
 use borrow.Author.Rules.{rules}
 use Rattle.cycles32.proofs.look_all.Statement.{statement}
 use Rattle.cycles32.proofs.look_all.Tie as tie
@@ -16,7 +16,7 @@ abbrev decreases-loop : tie.decreases-loop
 decreases-loop work₀ b tail₀ v₀ work tail v = b.atoms + b.nodes - v
 
 loop-holds : tie.Need-loop-init invariant-loop decreases-loop
-loop-holds c = (omega arith, look-start)
+loop-holds c = (omega arith, look_start)
 
 add-if1 : tie.Need-overflow-add-if1 invariant-loop decreases-loop
 add-if1 c =
@@ -43,21 +43,21 @@ add-put c =
     let p1 = c.before.before.before.before.before.before.before.before in
     let c-loop = p1.loop in
     let c-pre = p1.before.before.requires in
-    let l = c-pre.0 in let g = c-pre.1 in let s = c-loop.invariant.1.size in let r = look-room c-loop.invariant.1 in omega arith
+    let l = c-pre.0 in let g = c-pre.1 in let s = c-loop.invariant.1.size in let r = look_room c-loop.invariant.1 in omega arith
 
 put-requires : tie.Need-put-requires invariant-loop decreases-loop
 put-requires c κs =
     let p1 = c.before.before.before.before.before.before.before.before in
     let c-loop = p1.loop in
     let c-pre = p1.before.before.requires in
-    let l = c-pre.0 in let g = c-pre.1 in let s = c-loop.invariant.1.size in let r = look-room c-loop.invariant.1 in omega arith
+    let l = c-pre.0 in let g = c-pre.1 in let s = c-loop.invariant.1.size in let r = look_room c-loop.invariant.1 in omega arith
 
 add-tail : tie.Need-overflow-add-tail invariant-loop decreases-loop
 add-tail c =
     let p1 = c.before.before.before.before.before.before.before.before.before.before.before in
     let c-loop = p1.loop in
     let c-pre = p1.before.before.requires in
-    let l = c-pre.0 in let g = c-pre.1 in let s = c-loop.invariant.1.size in let r = look-room c-loop.invariant.1 in omega arith
+    let l = c-pre.0 in let g = c-pre.1 in let s = c-loop.invariant.1.size in let r = look_room c-loop.invariant.1 in omega arith
 
 add-v : tie.Need-overflow-add-v invariant-loop decreases-loop
 add-v c =

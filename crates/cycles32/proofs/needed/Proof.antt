@@ -6,9 +6,9 @@ use lib.ListN.{length, replicate}
 use Rattle.refusals.specs.Refusals.{answer_of}
 use Rattle.refusals.proofs.AcceptedLaws.{accepted}
 use Rattle.theory.specs.Accepted.{edition2}
-use Rattle.area.proofs.LayoutLaws.{edition2-roomy}
+use Rattle.area.proofs.LayoutLaws.{edition2_roomy}
 use Rattle.cycles.specs.Outcome.{loops}
-use Rattle.cycles.proofs.OutcomeLaws.{graph-refused, work-refused, answered}
+use Rattle.cycles.proofs.OutcomeLaws.{graph_refused, work_refused, answered}
 use borrow.Author.Rules.{rules}
 use Rattle.cycles32.proofs.needed.Statement.{statement}
 use Rattle.cycles32.proofs.needed.Tie as tie
@@ -25,7 +25,7 @@ returns c =
     let c-check = c.before.check in
     let p1 = c.before.before.before.before in
     let c-args = p1.args in
-    let r = graph-refused edition2 c-args.graph.now c-args.work.now {c = c-check.result} c-check.ensures (λ e. miss (1 ∷ 2 ∷ 3 ∷ 4 ∷ 5 ∷ 6 ∷ 7 ∷ 8 ∷ 9 ∷ 10 ∷ []) 0 tt (rw e at c-match.keys2)) in (r.answer, (r.work, r.walk))
+    let r = graph_refused edition2 c-args.graph.now c-args.work.now {c = c-check.result} c-check.ensures (λ e. miss (1 ∷ 2 ∷ 3 ∷ 4 ∷ 5 ∷ 6 ∷ 7 ∷ 8 ∷ 9 ∷ 10 ∷ []) 0 tt (rw e at c-match.keys2)) in (r.answer, (r.work, r.walk))
 
 words-requires : tie.Need-words-requires
 words-requires c κs =
@@ -41,7 +41,7 @@ returns-2 c =
     let c-enum-told = c.before.before.enum_told in
     let c-check = c.before.before.before.before.check in
     let c-args = c.before.before.before.before.before.before.before.args in
-    let r = work-refused edition2 c-args.graph.now c-args.work.now (sym c-check.ensures ∙ ap answer_of c-enum-told.given.1) (λ e. c-if1.true (e ∙ sym c-words.ensures)) in (r.answer, (r.work, r.walk))
+    let r = work_refused edition2 c-args.graph.now c-args.work.now (sym c-check.ensures ∙ ap answer_of c-enum-told.given.1) (λ e. c-if1.true (e ∙ sym c-words.ensures)) in (r.answer, (r.work, r.walk))
 
 cyclic-requires : tie.Need-cyclic-requires
 cyclic-requires c κs =
@@ -51,7 +51,7 @@ cyclic-requires c κs =
     let c-check = c.before.before.before.before.before.check in
     let c-args = c.before.before.before.before.before.before.before.before.args in
     let a = accepted edition2 c-args.graph.now (sym c-check.ensures ∙ ap answer_of c-enum-told.given.1) in
-    (a, edition2-roomy a (c-if1.false ∙ c-words.ensures))
+    (a, edition2_roomy a (c-if1.false ∙ c-words.ensures))
 
 wipe-requires : tie.Need-wipe-requires
 wipe-requires c κs = search rules

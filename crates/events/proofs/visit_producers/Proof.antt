@@ -1,19 +1,19 @@
 use Prim.Native.Nat.{◌≤◌, ◌-◌}
 use native.Mathlib.Omega.{arith}
 use lib.Seq.{slice}
-use Rattle.theory.specs.Words.{theoryOf}
+use Rattle.theory.specs.Words.{theory_of}
 use Rattle.theory.specs.Rows.{flat_map}
 use Rattle.theory.specs.Drive.{Drives}
-use Rattle.theory.proofs.DriveLaws.{drives-none}
+use Rattle.theory.proofs.DriveLaws.{drives_none}
 use Rattle.events.specs.Held.{Held}
-use Rattle.events.proofs.TurnLaws.{word_same, flat-next, flat-more, flat-done}
-use Rattle.events.proofs.SettleLaws.{tables-long}
+use Rattle.events.proofs.TurnLaws.{word_same, flat_next, flat_more, flat_done}
+use Rattle.events.proofs.SettleLaws.{tables_long}
 use borrow.Author.Rules.{rules}
 use Rattle.events.proofs.visit_producers.Statement.{statement}
 use Rattle.events.proofs.visit_producers.Tie as tie
 
 abbrev invariant-loop : tie.invariant-loop
-invariant-loop graph work₀ b from to tail t₀ i₀ work t i = (from ≤ i) × (i ≤ to) × Drives (Held 65536 b) b.states work₀ tail (flat_map (theoryOf graph).heads (slice from to work₀)) work t (flat_map (theoryOf graph).heads (slice i to work₀))
+invariant-loop graph work₀ b from to tail t₀ i₀ work t i = (from ≤ i) × (i ≤ to) × Drives (Held 65536 b) b.states work₀ tail (flat_map (theory_of graph).heads (slice from to work₀)) work t (flat_map (theory_of graph).heads (slice i to work₀))
 
 abbrev decreases-loop : tie.decreases-loop
 decreases-loop graph work₀ b from to tail t₀ i₀ work t i = to - i
@@ -22,14 +22,14 @@ loop-holds : tie.Need-loop-init invariant-loop decreases-loop
 loop-holds c =
     let c-pre = c.before.before.requires in
     let c-args = c.before.before.args in
-    (omega arith, c-pre.0.1, drives-none (Held 65536 c-args.b))
+    (omega arith, c-pre.0.1, drives_none (Held 65536 c-args.b))
 
 at-requires : tie.Need-at-requires invariant-loop decreases-loop
 at-requires c κs =
     let c-loop = c.before.before.before.loop in
     let p1 = c.before.before.before.before.before.before in
     let c-pre = p1.requires in
-    let r = tables-long c-pre.1 in let s = c-loop.invariant.2.size in omega arith
+    let r = tables_long c-pre.1 in let s = c-loop.invariant.2.size in omega arith
 
 visit-heads-requires : tie.Need-visit-heads-requires invariant-loop decreases-loop
 visit-heads-requires c κs =
@@ -40,7 +40,7 @@ visit-heads-requires c κs =
     let c-pre = p1.before.before.before.requires in
     let c-args = p1.before.before.before.args in (
       (c-pre.0.0, rw (word_same c-loop.invariant.2 (let k = c-pre.0.2 in let z = c-loop-test.true in omega arith) c-at.ensures.0) (c-pre.0.3 c-loop.i c-loop.invariant.0 c-loop-test.true)),
-      flat-next (theoryOf c-args.graph.now).heads c-loop.i c-args.to c-loop.invariant.2 (tables-long c-pre.1) c-pre.0.2 c-loop-test.true c-at.ensures.0 c-pre.1,
+      flat_next (theory_of c-args.graph.now).heads c-loop.i c-args.to c-loop.invariant.2 (tables_long c-pre.1) c-pre.0.2 c-loop-test.true c-at.ensures.0 c-pre.1,
     )
 
 add-i : tie.Need-overflow-add-i invariant-loop decreases-loop
@@ -59,7 +59,7 @@ loop-again c =
     let p2 = p1.before.before.before.before in
     let c-args = p2.args in
     let c-pre = p2.requires in
-    (omega arith, omega arith, flat-more (theoryOf c-args.graph.now).heads c-loop.i c-args.to c-loop.invariant.2 (tables-long c-pre.1) c-pre.0.2 c-loop-test.true c-at.ensures.0 c-visit-heads.ensures)
+    (omega arith, omega arith, flat_more (theory_of c-args.graph.now).heads c-loop.i c-args.to c-loop.invariant.2 (tables_long c-pre.1) c-pre.0.2 c-loop-test.true c-at.ensures.0 c-visit-heads.ensures)
 
 same_length : tie.Need-same-length invariant-loop decreases-loop
 same_length c = search rules
@@ -70,7 +70,7 @@ returns c =
     let c-loop = c.before.loop in
     let p1 = c.before.before.before.before in
     let c-args = p1.args in
-    flat-done (theoryOf c-args.graph.now).heads c-loop.i c-args.to c-loop.invariant.2 c-loop-test.false c-loop.invariant.1
+    flat_done (theory_of c-args.graph.now).heads c-loop.i c-args.to c-loop.invariant.2 c-loop-test.false c-loop.invariant.1
 
 pub visit-producers-spec : {M : Type 1} → statement M
 visit-producers-spec =

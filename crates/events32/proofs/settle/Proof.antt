@@ -1,7 +1,7 @@
 -- Written by tools/widen from crates/events/proofs/settle/Proof.antt: edit that one.
 use native.Mathlib.Omega.{arith}
 use lib.ListN.{length-set}
-use Rattle.events.proofs.SettleLaws.{one_of, ready, settle-wait, settle-room, settle-found}
+use Rattle.events.proofs.SettleLaws.{one_of, ready, settle_wait, settle_room, settle_found}
 use borrow.Author.Rules.{rules}
 use Rattle.events32.proofs.settle.Statement.{statement}
 use Rattle.events32.proofs.settle.Tie as tie
@@ -48,7 +48,7 @@ returns c =
     let c-at = p1.before.at in
     let p2 = p1.before.before.before.before.before in
     let c-pre = p2.requires in
-    rw c-put.ensures (settle-wait (c-pre) c-at.result c-at.ensures.0 (let k = c-if1.true in omega arith) _ (omega (arith, one_of c-at.result)))
+    rw c-put.ensures (settle_wait (c-pre) c-at.result c-at.ensures.0 (let k = c-if1.true in omega arith) _ (omega (arith, one_of c-at.result)))
 
 add-put-2 : tie.Need-overflow-add-put-2
 add-put-2 c =
@@ -69,7 +69,7 @@ add-put-3 c =
     let c-at = p1.before.at in
     let p2 = p1.before.before.before.before.before in
     let c-pre = p2.requires in
-    let r = ready (c-pre) in let l = r.laid in let k = settle-room (c-pre) (let e = c-at.ensures.0 in let z = c-if1.false in omega arith) in omega arith
+    let r = ready (c-pre) in let l = r.laid in let k = settle_room (c-pre) (let e = c-at.ensures.0 in let z = c-if1.false in omega arith) in omega arith
 
 put-requires-3 : tie.Need-put-requires-3
 put-requires-3 c κs =
@@ -79,7 +79,7 @@ put-requires-3 c κs =
     let c-at = p1.before.at in
     let p2 = p1.before.before.before.before.before in
     let c-pre = p2.requires in
-    let r = ready (c-pre) in let l = r.laid in let k = settle-room (c-pre) (let e = c-at.ensures.0 in let z = c-if1.false in omega arith) in (rw (c-put2.ensures, length-set) (omega arith), omega arith)
+    let r = ready (c-pre) in let l = r.laid in let k = settle_room (c-pre) (let e = c-at.ensures.0 in let z = c-if1.false in omega arith) in (rw (c-put2.ensures, length-set) (omega arith), omega arith)
 
 add-result : tie.Need-overflow-add-result
 add-result c =
@@ -88,7 +88,7 @@ add-result c =
     let c-at = p1.before.at in
     let p2 = p1.before.before.before.before.before in
     let c-pre = p2.requires in
-    let r = ready (c-pre) in let l = r.laid in let k = settle-room (c-pre) (let e = c-at.ensures.0 in let z = c-if1.false in omega arith) in omega arith
+    let r = ready (c-pre) in let l = r.laid in let k = settle_room (c-pre) (let e = c-at.ensures.0 in let z = c-if1.false in omega arith) in omega arith
 
 same-length-2 : tie.Need-same-length-2
 same-length-2 c = search rules
@@ -102,7 +102,7 @@ returns-2 c =
     let c-at = p1.before.at in
     let p2 = p1.before.before.before.before.before in
     let c-pre = p2.requires in
-    rw (c-put3.ensures, c-put2.ensures) (settle-found (c-pre) (let e = c-at.ensures.0 in let z = c-if1.false in omega arith))
+    rw (c-put3.ensures, c-put2.ensures) (settle_found (c-pre) (let e = c-at.ensures.0 in let z = c-if1.false in omega arith))
 
 pub settle-spec : {M : Type 1} → statement M
 settle-spec =

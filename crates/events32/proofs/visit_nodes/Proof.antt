@@ -3,17 +3,17 @@ use Prim.Native.Nat.{◌≤◌, ◌-◌}
 use native.Mathlib.Omega.{arith}
 use lib.Seq.{slice}
 use Rattle.theory.specs.Drive.{Drives}
-use Rattle.theory.proofs.DriveLaws.{drives-none}
-use Rattle.area.specs.Views.{asVertices}
+use Rattle.theory.proofs.DriveLaws.{drives_none}
+use Rattle.area.specs.Views.{as_vertices}
 use Rattle.events.specs.Held.{Held}
-use Rattle.events.proofs.TurnLaws.{nodes-next, nodes-more, nodes-done}
-use Rattle.events.proofs.SettleLaws.{ready, tables-long}
+use Rattle.events.proofs.TurnLaws.{nodes_next, nodes_more, nodes_done}
+use Rattle.events.proofs.SettleLaws.{ready, tables_long}
 use borrow.Author.Rules.{rules}
 use Rattle.events32.proofs.visit_nodes.Statement.{statement}
 use Rattle.events32.proofs.visit_nodes.Tie as tie
 
 abbrev invariant-loop : tie.invariant-loop
-invariant-loop work₀ b from to tail t₀ i₀ work t i = (i ≤ to) × Drives (Held 4294967296 b) b.states work₀ tail (asVertices b (slice from to work₀)) work t (asVertices b (slice i to work₀))
+invariant-loop work₀ b from to tail t₀ i₀ work t i = (i ≤ to) × Drives (Held 4294967296 b) b.states work₀ tail (as_vertices b (slice from to work₀)) work t (as_vertices b (slice i to work₀))
 
 abbrev decreases-loop : tie.decreases-loop
 decreases-loop work₀ b from to tail t₀ i₀ work t i = to - i
@@ -22,14 +22,14 @@ loop-holds : tie.Need-loop-init invariant-loop decreases-loop
 loop-holds c =
     let c-pre = c.before.requires in
     let c-args = c.before.args in
-    (c-pre.0.0, drives-none (Held 4294967296 c-args.b))
+    (c-pre.0.0, drives_none (Held 4294967296 c-args.b))
 
 at-requires : tie.Need-at-requires invariant-loop decreases-loop
 at-requires c κs =
     let c-loop = c.before.before.before.loop in
     let p1 = c.before.before.before.before.before in
     let c-pre = p1.requires in
-    let r = tables-long c-pre.1 in let s = c-loop.invariant.1.size in omega arith
+    let r = tables_long c-pre.1 in let s = c-loop.invariant.1.size in omega arith
 
 add-settle : tie.Need-overflow-add-settle invariant-loop decreases-loop
 add-settle c =
@@ -39,7 +39,7 @@ add-settle c =
     let c-loop = p1.before.loop in
     let c-args = p1.before.before.before.args in
     let c-pre = p1.before.before.before.requires in
-    let f = nodes-next c-args.b c-loop.i c-args.to c-loop.invariant.1 (tables-long c-pre.1) c-pre.0.1 c-loop-test.true c-at.ensures.0 c-pre.1 in let l = (ready f).low in omega arith
+    let f = nodes_next c-args.b c-loop.i c-args.to c-loop.invariant.1 (tables_long c-pre.1) c-pre.0.1 c-loop-test.true c-at.ensures.0 c-pre.1 in let l = (ready f).low in omega arith
 
 settle-requires : tie.Need-settle-requires invariant-loop decreases-loop
 settle-requires c κs =
@@ -49,7 +49,7 @@ settle-requires c κs =
     let c-loop = p1.before.loop in
     let c-args = p1.before.before.before.args in
     let c-pre = p1.before.before.before.requires in
-    nodes-next c-args.b c-loop.i c-args.to c-loop.invariant.1 (tables-long c-pre.1) c-pre.0.1 c-loop-test.true c-at.ensures.0 c-pre.1
+    nodes_next c-args.b c-loop.i c-args.to c-loop.invariant.1 (tables_long c-pre.1) c-pre.0.1 c-loop-test.true c-at.ensures.0 c-pre.1
 
 add-i : tie.Need-overflow-add-i invariant-loop decreases-loop
 add-i c = search rules
@@ -67,7 +67,7 @@ loop-again c =
     let c-loop = p2.loop in
     let c-args = p2.before.before.args in
     let c-pre = p2.before.before.requires in
-    (omega arith, nodes-more c-args.b c-loop.i c-args.to c-loop.invariant.1 (tables-long c-pre.1) c-pre.0.1 c-loop-test.true c-at.ensures.0 c-settle.ensures)
+    (omega arith, nodes_more c-args.b c-loop.i c-args.to c-loop.invariant.1 (tables_long c-pre.1) c-pre.0.1 c-loop-test.true c-at.ensures.0 c-settle.ensures)
 
 same_length : tie.Need-same-length invariant-loop decreases-loop
 same_length c = search rules
@@ -77,7 +77,7 @@ returns c =
     let c-loop-test = c.loop-test in
     let c-loop = c.before.loop in
     let c-args = c.before.before.before.args in
-    nodes-done c-args.b c-loop.i c-args.to c-loop.invariant.1 c-loop-test.false c-loop.invariant.0
+    nodes_done c-args.b c-loop.i c-args.to c-loop.invariant.1 c-loop-test.false c-loop.invariant.0
 
 pub visit-nodes-spec : {M : Type 1} → statement M
 visit-nodes-spec =

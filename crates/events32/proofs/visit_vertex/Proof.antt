@@ -1,7 +1,7 @@
 -- Written by tools/widen from crates/events/proofs/visit_vertex/Proof.antt: edit that one.
 use Prim.Native.Nat.{◌-◌}
 use native.Mathlib.Omega.{arith}
-use Rattle.events.proofs.VertexLaws.{atom-spanned, atom-row, parents-spanned, body-spanned, body-named, parents-next, later, body-next, node_done}
+use Rattle.events.proofs.VertexLaws.{atom_spanned, atom_row, parents_spanned, body_spanned, body_named, parents_next, later, body_next, node_done}
 use borrow.Author.Rules.{rules}
 use Rattle.events32.proofs.visit_vertex.Statement.{statement}
 use Rattle.events32.proofs.visit_vertex.Tie as tie
@@ -12,7 +12,7 @@ visit-row-requires c κs =
     let p1 = c.before.before.before.before.before in
     let c-pre = p1.requires in
     let c-args = p1.args in
-    (atom-spanned c-pre.0.1 c-pre.0.3 c-args.v c-if1.true, rw (atom-row c-pre.0.1 c-pre.0.3 c-args.v c-if1.true) at c-pre.1)
+    (atom_spanned c-pre.0.1 c-pre.0.3 c-args.v c-if1.true, rw (atom_row c-pre.0.1 c-pre.0.3 c-args.v c-if1.true) at c-pre.1)
 
 same_length : tie.Need-same-length
 same_length c = search rules
@@ -25,7 +25,7 @@ returns c =
     let p2 = p1.before.before.before.before in
     let c-pre = p2.requires in
     let c-args = p2.args in
-    rw (atom-row c-pre.0.1 c-pre.0.3 c-args.v c-if1.true) c-visit-row.ensures
+    rw (atom_row c-pre.0.1 c-pre.0.3 c-args.v c-if1.true) c-visit-row.ensures
 
 visit-row-requires-2 : tie.Need-visit-row-requires-2
 visit-row-requires-2 c κs =
@@ -33,7 +33,7 @@ visit-row-requires-2 c κs =
     let p1 = c.before.before.before.before.before.before in
     let c-pre = p1.requires in
     let c-args = p1.args in
-    let k = c-pre.0.2 in let l = c-if1.false in (parents-spanned c-pre.0.1 c-pre.0.3 (c-args.v - c-args.b.atoms) (omega arith), parents-next c-pre.0.1 c-pre.0.3 l k c-pre.1)
+    let k = c-pre.0.2 in let l = c-if1.false in (parents_spanned c-pre.0.1 c-pre.0.3 (c-args.v - c-args.b.atoms) (omega arith), parents_next c-pre.0.1 c-pre.0.3 l k c-pre.1)
 
 visit-body-requires : tie.Need-visit-body-requires
 visit-body-requires c κs =
@@ -44,7 +44,7 @@ visit-body-requires c κs =
     let c-pre = p2.requires in
     let c-args = p2.args in
     let k = c-pre.0.2 in let l = c-if1.false in let t = later c-pre.0.1 c-pre.0.3 l k c-pre.1 c-visit-row2.ensures in
-    ((c-pre.0.0, body-spanned c-pre.0.1 t (c-args.v - c-args.b.atoms) (omega arith)), (body-named c-pre.0.1 t (c-args.v - c-args.b.atoms) (omega arith), body-next c-pre.0.1 c-pre.0.3 l k c-pre.1 c-visit-row2.ensures))
+    ((c-pre.0.0, body_spanned c-pre.0.1 t (c-args.v - c-args.b.atoms) (omega arith)), (body_named c-pre.0.1 t (c-args.v - c-args.b.atoms) (omega arith), body_next c-pre.0.1 c-pre.0.3 l k c-pre.1 c-visit-row2.ensures))
 
 same-length-2 : tie.Need-same-length-2
 same-length-2 c = search rules

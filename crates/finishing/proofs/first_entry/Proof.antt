@@ -1,6 +1,6 @@
 use mathlib.Core.Path.{sym, ◌∙◌}
 use native.Mathlib.Omega.{arith}
-use Rattle.finishing.proofs.CursorLaws.{first-atom, node_in, node-kind, node-says, first-operand, first_leaf}
+use Rattle.finishing.proofs.CursorLaws.{first_atom, node_in, node_kind, node_says, first_operand, first_leaf}
 use Rattle.finishing.proofs.first_entry.Statement.{statement}
 use Rattle.finishing.proofs.first_entry.Tie as tie
 
@@ -9,7 +9,7 @@ returns c =
     let c-if1 = c.if1 in
     let c-pre = c.before.before.before.requires in
     let c-args = c.before.before.before.args in
-    let e = c-pre.2 in let t = c-if1.true in sym (first-atom c-args.graph.now c-args.v (omega arith))
+    let e = c-pre.2 in let t = c-if1.true in sym (first_atom c-args.graph.now c-args.v (omega arith))
 
 kind-requires : tie.Need-kind-requires
 kind-requires c κs =
@@ -24,7 +24,7 @@ takes-operand-requires c κs =
     let c-if1 = c.before.before.if1 in
     let p1 = c.before.before.before.before.before in
     let c-pre = p1.requires in
-    node-kind _ c-pre.0 c-pre.1 c-pre.2 c-if1.false c-kind.ensures
+    node_kind _ c-pre.0 c-pre.1 c-pre.2 c-if1.false c-kind.ensures
 
 returns-2 : tie.Need-returns-2
 returns-2 c =
@@ -34,7 +34,7 @@ returns-2 c =
     let p1 = c.before.before.before.before in
     let c-if1 = p1.if1 in
     let c-pre = p1.before.before.before.requires in
-    sym (first-operand _ c-pre.0 c-pre.1 c-pre.2 c-if1.false (sym (node-says _ c-pre.0 c-pre.1 c-pre.2 c-if1.false c-kind.ensures c-takes-operand.ensures) ∙ c-if2.true))
+    sym (first_operand _ c-pre.0 c-pre.1 c-pre.2 c-if1.false (sym (node_says _ c-pre.0 c-pre.1 c-pre.2 c-if1.false c-kind.ensures c-takes-operand.ensures) ∙ c-if2.true))
 
 first-leaf-requires : tie.Need-first-leaf-requires
 first-leaf-requires c κs =
@@ -52,7 +52,7 @@ returns-3 c =
     let p1 = c.before.before.before.before.before in
     let c-if1 = p1.if1 in
     let c-pre = p1.before.before.before.requires in
-    c-first-leaf.ensures ∙ sym (first_leaf _ c-pre.0 c-pre.1 c-pre.2 c-if1.false (sym (node-says _ c-pre.0 c-pre.1 c-pre.2 c-if1.false c-kind.ensures c-takes-operand.ensures) ∙ c-if2.false))
+    c-first-leaf.ensures ∙ sym (first_leaf _ c-pre.0 c-pre.1 c-pre.2 c-if1.false (sym (node_says _ c-pre.0 c-pre.1 c-pre.2 c-if1.false c-kind.ensures c-takes-operand.ensures) ∙ c-if2.false))
 
 pub first-entry-spec : {M : Type 1} → statement M
 first-entry-spec =

@@ -2,8 +2,8 @@ use mathlib.Core.Path.{◌≡◌, refl}
 use Prim.Native.Nat.{ℕ, ◌+◌, ◌-◌, ◌<◌}
 use native.Mathlib.Omega.{arith}
 use Rattle.finishing.specs.Walking.{OnTop, Passed}
-use Rattle.finishing.proofs.PlaceLaws.{vertices-few, vertices-are}
-use Rattle.finishing.proofs.PassedLaws.{here, passed_none, is-new, not_new, row_done, start-place, entry_place, cursor-few, producer-in, fact-passed, body-fits, body-found, body-passed}
+use Rattle.finishing.proofs.PlaceLaws.{vertices_few, vertices_are}
+use Rattle.finishing.proofs.PassedLaws.{here, passed_none, is_new, not_new, row_done, start_place, entry_place, cursor_few, producer_in, fact_passed, body_fits, body_found, body_passed}
 use borrow.Author.Rules.{rules}
 use Rattle.finishing.proofs.look_atom.Statement.{statement}
 use Rattle.finishing.proofs.look_atom.Tie as tie
@@ -53,7 +53,7 @@ add-loop c =
     let c-row-start = p1.row-start in
     let p2 = p1.before.before.before.before.before in
     let c-pre = p2.requires in
-    let p = start-place c-pre.0 c-pre.1.2 c-loop.invariant.1 c-pre.2 c-row-start.ensures c-row-start2.ensures in let f = c-loop.invariant.2 in omega arith
+    let p = start_place c-pre.0 c-pre.1.2 c-loop.invariant.1 c-pre.2 c-row-start.ensures c-row-start2.ensures in let f = c-loop.invariant.2 in omega arith
 
 add_at : tie.Need-overflow-add-at invariant-loop decreases-loop
 add_at c =
@@ -87,7 +87,7 @@ body-requires c κs =
     let c-row-start = p1.before.before.row-start in
     let p2 = p1.before.before.before.before.before.before.before in
     let c-pre = p2.requires in
-    producer-in c-pre.0 c-pre.1.2 c-loop.invariant.1 c-pre.2 c-row-start.ensures c-row-start2.ensures c-loop-test.true (rw c-loop.invariant.0 at c-at2.ensures.0)
+    producer_in c-pre.0 c-pre.1.2 c-loop.invariant.1 c-pre.2 c-row-start.ensures c-row-start2.ensures c-loop-test.true (rw c-loop.invariant.0 at c-at2.ensures.0)
 
 add-cursor : tie.Need-overflow-add-cursor invariant-loop decreases-loop
 add-cursor c =
@@ -99,7 +99,7 @@ add-cursor c =
     let c-row-start = p2.row-start in
     let p3 = p2.before.before.before.before.before in
     let c-pre = p3.requires in
-    let f = cursor-few c-pre.0 c-pre.1.2 c-loop.invariant.1 c-pre.2 c-row-start.ensures c-row-start2.ensures c-loop-test.true in omega arith
+    let f = cursor_few c-pre.0 c-pre.1.2 c-loop.invariant.1 c-pre.2 c-row-start.ensures c-row-start2.ensures c-loop-test.true in omega arith
 
 sub-is-new : tie.Need-overflow-sub-is-new invariant-loop decreases-loop
 sub-is-new c = search rules
@@ -117,7 +117,7 @@ add-is-new c =
     let c-row-start = p2.before.before.row-start in
     let p3 = p2.before.before.before.before.before.before.before in
     let c-pre = p3.requires in
-    let f = body-fits c-pre.0 c-pre.1.2 c-loop.invariant.1 c-pre.2 c-row-start.ensures c-row-start2.ensures c-loop-test.true (rw c-loop.invariant.0 at c-at2.ensures.0) c-body.ensures (λ z. let t = c-if1.true in omega arith) in let g = vertices-few c-pre.1.2.walking.ready.based c-pre.0 in let e = vertices-are c-pre.1.2.walking.ready.based in omega arith
+    let f = body_fits c-pre.0 c-pre.1.2 c-loop.invariant.1 c-pre.2 c-row-start.ensures c-row-start2.ensures c-loop-test.true (rw c-loop.invariant.0 at c-at2.ensures.0) c-body.ensures (λ z. let t = c-if1.true in omega arith) in let g = vertices_few c-pre.1.2.walking.ready.based c-pre.0 in let e = vertices_are c-pre.1.2.walking.ready.based in omega arith
 
 is-new-requires : tie.Need-is-new-requires invariant-loop decreases-loop
 is-new-requires c κs =
@@ -132,7 +132,7 @@ is-new-requires c κs =
     let c-row-start = p2.before.before.row-start in
     let p3 = p2.before.before.before.before.before.before.before in
     let c-pre = p3.requires in
-    rw c-loop.invariant.0 (c-pre.1.2.walking.ready.based.laid, body-fits c-pre.0 c-pre.1.2 c-loop.invariant.1 c-pre.2 c-row-start.ensures c-row-start2.ensures c-loop-test.true (rw c-loop.invariant.0 at c-at2.ensures.0) c-body.ensures (λ z. let t = c-if1.true in omega arith), c-pre.1.2.walking.ready.based.ends)
+    rw c-loop.invariant.0 (c-pre.1.2.walking.ready.based.laid, body_fits c-pre.0 c-pre.1.2 c-loop.invariant.1 c-pre.2 c-row-start.ensures c-row-start2.ensures c-loop-test.true (rw c-loop.invariant.0 at c-at2.ensures.0) c-body.ensures (λ z. let t = c-if1.true in omega arith), c-pre.1.2.walking.ready.based.ends)
 
 put-requires : tie.Need-put-requires invariant-loop decreases-loop
 put-requires c κs =
@@ -144,7 +144,7 @@ put-requires c κs =
     let c-row-start = p2.before.before.row-start in
     let p3 = p2.before.before.before.before.before.before.before in
     let c-pre = p3.requires in
-    rw c-loop.invariant.0 (here c-pre.1.2, (let f = cursor-few c-pre.0 c-pre.1.2 c-loop.invariant.1 c-pre.2 c-row-start.ensures c-row-start2.ensures c-loop-test.true in omega arith))
+    rw c-loop.invariant.0 (here c-pre.1.2, (let f = cursor_few c-pre.0 c-pre.1.2 c-loop.invariant.1 c-pre.2 c-row-start.ensures c-row-start2.ensures c-loop-test.true in omega arith))
 
 sub-t30 : tie.Need-overflow-sub-t30 invariant-loop decreases-loop
 sub-t30 c = search rules
@@ -163,7 +163,7 @@ add-t31 c =
     let c-row-start = p3.before.before.row-start in
     let p4 = p3.before.before.before.before.before.before.before in
     let c-pre = p4.requires in
-    let f = body-fits c-pre.0 c-pre.1.2 c-loop.invariant.1 c-pre.2 c-row-start.ensures c-row-start2.ensures c-loop-test.true (rw c-loop.invariant.0 at c-at2.ensures.0) c-body.ensures (λ z. let t = c-if1.true in omega arith) in let g = vertices-few c-pre.1.2.walking.ready.based c-pre.0 in let e = vertices-are c-pre.1.2.walking.ready.based in omega arith
+    let f = body_fits c-pre.0 c-pre.1.2 c-loop.invariant.1 c-pre.2 c-row-start.ensures c-row-start2.ensures c-loop-test.true (rw c-loop.invariant.0 at c-at2.ensures.0) c-body.ensures (λ z. let t = c-if1.true in omega arith) in let g = vertices_few c-pre.1.2.walking.ready.based c-pre.0 in let e = vertices_are c-pre.1.2.walking.ready.based in omega arith
 
 same_length : tie.Need-same-length invariant-loop decreases-loop
 same_length c =
@@ -176,7 +176,7 @@ returns c =
     let c-put = c.before.before.before.put in
     let p1 = c.before.before.before.before.before in
     let c-if2 = p1.if2 in
-    let c-is-new = p1.before.is-new in
+    let c-is-new = p1.before.is_new in
     let p2 = p1.before.before.before.before in
     let c-if1 = p2.if1 in
     let c-body = p2.before.body in
@@ -190,7 +190,7 @@ returns c =
     let p5 = p4.before.before.before.before.before.before.before in
     let c-pre = p5.requires in
     let c-args = p5.args in
-    rw (c-put.ensures, c-loop.invariant.0) (body-found c-pre.0 c-pre.1.2 c-loop.invariant.1 c-pre.2 c-row-start.ensures c-row-start2.ensures c-loop-test.true (rw c-loop.invariant.0 at c-at2.ensures.0) c-body.ensures (λ z. let t = c-if1.true in omega arith) (is-new c-args.b (c-args.b.atoms + (c-body.result - 1)) c-loop.invariant.0 c-is-new.ensures c-if2.true))
+    rw (c-put.ensures, c-loop.invariant.0) (body_found c-pre.0 c-pre.1.2 c-loop.invariant.1 c-pre.2 c-row-start.ensures c-row-start2.ensures c-loop-test.true (rw c-loop.invariant.0 at c-at2.ensures.0) c-body.ensures (λ z. let t = c-if1.true in omega arith) (is_new c-args.b (c-args.b.atoms + (c-body.result - 1)) c-loop.invariant.0 c-is-new.ensures c-if2.true))
 
 loop-less : tie.Need-loop-smaller invariant-loop decreases-loop
 loop-less c =
@@ -201,7 +201,7 @@ loop-less c =
 loop-again : tie.Need-loop-preserved invariant-loop decreases-loop
 loop-again c =
     let c-if2 = c.if2 in
-    let c-is-new = c.before.is-new in
+    let c-is-new = c.before.is_new in
     let p1 = c.before.before.before.before in
     let c-if1 = p1.if1 in
     let c-body = p1.before.body in
@@ -215,7 +215,7 @@ loop-again c =
     let p4 = p3.before.before.before.before.before.before.before in
     let c-pre = p4.requires in
     let c-args = p4.args in
-    (c-loop.invariant.0, (λ top done o. body-passed c-pre.0 o c-loop.invariant.1 c-pre.2 c-row-start.ensures c-row-start2.ensures c-loop-test.true (rw c-loop.invariant.0 at c-at2.ensures.0) c-body.ensures (λ z. let t = c-if1.true in omega arith) (not_new c-args.b (c-args.b.atoms + (c-body.result - 1)) c-loop.invariant.0 c-is-new.ensures c-if2.false)), (let f = cursor-few c-pre.0 c-pre.1.2 c-loop.invariant.1 c-pre.2 c-row-start.ensures c-row-start2.ensures c-loop-test.true in omega arith))
+    (c-loop.invariant.0, (λ top done o. body_passed c-pre.0 o c-loop.invariant.1 c-pre.2 c-row-start.ensures c-row-start2.ensures c-loop-test.true (rw c-loop.invariant.0 at c-at2.ensures.0) c-body.ensures (λ z. let t = c-if1.true in omega arith) (not_new c-args.b (c-args.b.atoms + (c-body.result - 1)) c-loop.invariant.0 c-is-new.ensures c-if2.false)), (let f = cursor_few c-pre.0 c-pre.1.2 c-loop.invariant.1 c-pre.2 c-row-start.ensures c-row-start2.ensures c-loop-test.true in omega arith))
 
 loop-less-2 : tie.Need-loop-smaller-2 invariant-loop decreases-loop
 loop-less-2 c =
@@ -236,7 +236,7 @@ loop-again-2 c =
     let c-row-start = p2.before.before.row-start in
     let p3 = p2.before.before.before.before.before.before.before in
     let c-pre = p3.requires in
-    (c-loop.invariant.0, (λ top done o. fact-passed c-pre.0 o c-loop.invariant.1 c-pre.2 c-row-start.ensures c-row-start2.ensures c-loop-test.true (rw c-loop.invariant.0 at c-at2.ensures.0) c-body.ensures (let t = c-if1.false in omega arith)), (let f = cursor-few c-pre.0 c-pre.1.2 c-loop.invariant.1 c-pre.2 c-row-start.ensures c-row-start2.ensures c-loop-test.true in omega arith))
+    (c-loop.invariant.0, (λ top done o. fact_passed c-pre.0 o c-loop.invariant.1 c-pre.2 c-row-start.ensures c-row-start2.ensures c-loop-test.true (rw c-loop.invariant.0 at c-at2.ensures.0) c-body.ensures (let t = c-if1.false in omega arith)), (let f = cursor_few c-pre.0 c-pre.1.2 c-loop.invariant.1 c-pre.2 c-row-start.ensures c-row-start2.ensures c-loop-test.true in omega arith))
 
 put-requires-2 : tie.Need-put-requires-2 invariant-loop decreases-loop
 put-requires-2 c κs =

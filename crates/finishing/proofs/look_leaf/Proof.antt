@@ -3,11 +3,11 @@ use Prim.Native.Nat.{ℕ, ◌+◌}
 use native.Mathlib.Omega.{arith}
 use lib.ListN.{length}
 use Rattle.theory.specs.Words.{chain}
-use Rattle.theory.proofs.ChainLaws.{chain-falls}
-use Rattle.graph.proofs.DecodeLaws.{value-of, next-of, link-in}
+use Rattle.theory.proofs.ChainLaws.{chain_falls}
+use Rattle.graph.proofs.DecodeLaws.{value_of_lem, next_of_lem, link_in}
 use Rattle.finishing.specs.Walking.{OnTop, Passed}
-use Rattle.finishing.proofs.PlaceLaws.{vertices-few, vertex-low}
-use Rattle.finishing.proofs.PassedLaws.{here, passed_none, is-new, not_new, inputs-done, leaf-ends, leaf-few, leaf-under, leaf-found, leaf-passed}
+use Rattle.finishing.proofs.PlaceLaws.{vertices_few, vertex_low}
+use Rattle.finishing.proofs.PassedLaws.{here, passed_none, is_new, not_new, inputs_done, leaf_ends, leaf_few, leaf_under, leaf_found, leaf_passed}
 use borrow.Author.Rules.{rules}
 use Rattle.finishing.proofs.look_leaf.Statement.{statement}
 use Rattle.finishing.proofs.look_leaf.Tie as tie
@@ -46,7 +46,7 @@ value-requires c κs =
     let p1 = c.before.before.before.before.before in
     let c-links-from = p1.links-from in
     let c-pre = p1.before.before.before.requires in
-    link-in c-links-from.ensures c-pre.0 (leaf-ends c-pre.0 c-pre.1.2 c-loop.invariant.1 c-pre.2 c-pre.3 (λ z. omega arith)) (λ z. omega arith)
+    link_in c-links-from.ensures c-pre.0 (leaf_ends c-pre.0 c-pre.1.2 c-loop.invariant.1 c-pre.2 c-pre.3 (λ z. omega arith)) (λ z. omega arith)
 
 next-requires : tie.Need-next-requires invariant-loop decreases-loop
 next-requires c κs =
@@ -54,7 +54,7 @@ next-requires c κs =
     let p1 = c.before.before.before.before.before.before in
     let c-links-from = p1.links-from in
     let c-pre = p1.before.before.before.requires in
-    link-in c-links-from.ensures c-pre.0 (leaf-ends c-pre.0 c-pre.1.2 c-loop.invariant.1 c-pre.2 c-pre.3 (λ z. omega arith)) (λ z. omega arith)
+    link_in c-links-from.ensures c-pre.0 (leaf_ends c-pre.0 c-pre.1.2 c-loop.invariant.1 c-pre.2 c-pre.3 (λ z. omega arith)) (λ z. omega arith)
 
 add-is-new : tie.Need-overflow-add-is-new invariant-loop decreases-loop
 add-is-new c =
@@ -65,7 +65,7 @@ add-is-new c =
     let p2 = p1.before.before.before.before in
     let c-links-from = p2.links-from in
     let c-pre = p2.before.before.before.requires in
-    let u = leaf-under c-pre.0 c-pre.1.2 c-loop.invariant.1 c-pre.2 c-pre.3 (λ z. omega arith) c-next.result (next-of c-links-from.ensures c-loop.cursor c-next.ensures (omega arith)) (value-of c-links-from.ensures c-loop.cursor c-value.ensures (omega arith)) in let f = vertices-few c-pre.1.2.walking.ready.based c-pre.0 in omega arith
+    let u = leaf_under c-pre.0 c-pre.1.2 c-loop.invariant.1 c-pre.2 c-pre.3 (λ z. omega arith) c-next.result (next_of_lem c-links-from.ensures c-loop.cursor c-next.ensures (omega arith)) (value_of_lem c-links-from.ensures c-loop.cursor c-value.ensures (omega arith)) in let f = vertices_few c-pre.1.2.walking.ready.based c-pre.0 in omega arith
 
 is-new-requires : tie.Need-is-new-requires invariant-loop decreases-loop
 is-new-requires c κs =
@@ -76,7 +76,7 @@ is-new-requires c κs =
     let p2 = p1.before.before.before.before in
     let c-links-from = p2.links-from in
     let c-pre = p2.before.before.before.requires in
-    rw c-loop.invariant.0 (c-pre.1.2.walking.ready.based.laid, vertex-low c-pre.1.2.walking.ready.based _ (leaf-under c-pre.0 c-pre.1.2 c-loop.invariant.1 c-pre.2 c-pre.3 (λ z. omega arith) c-next.result (next-of c-links-from.ensures c-loop.cursor c-next.ensures (omega arith)) (value-of c-links-from.ensures c-loop.cursor c-value.ensures (omega arith))), c-pre.1.2.walking.ready.based.ends)
+    rw c-loop.invariant.0 (c-pre.1.2.walking.ready.based.laid, vertex_low c-pre.1.2.walking.ready.based _ (leaf_under c-pre.0 c-pre.1.2 c-loop.invariant.1 c-pre.2 c-pre.3 (λ z. omega arith) c-next.result (next_of_lem c-links-from.ensures c-loop.cursor c-next.ensures (omega arith)) (value_of_lem c-links-from.ensures c-loop.cursor c-value.ensures (omega arith))), c-pre.1.2.walking.ready.based.ends)
 
 put-requires : tie.Need-put-requires invariant-loop decreases-loop
 put-requires c κs =
@@ -86,7 +86,7 @@ put-requires c κs =
     let p2 = p1.before.before.before.before.before.before.before in
     let c-links-from = p2.links-from in
     let c-pre = p2.before.before.before.requires in
-    rw c-loop.invariant.0 (here c-pre.1.2, (let f = leaf-few c-pre.0 c-pre.1.2 c-loop.invariant.1 c-pre.2 c-pre.3 (λ z. omega arith) in let e = next-of c-links-from.ensures c-loop.cursor c-next.ensures (omega arith) in omega arith))
+    rw c-loop.invariant.0 (here c-pre.1.2, (let f = leaf_few c-pre.0 c-pre.1.2 c-loop.invariant.1 c-pre.2 c-pre.3 (λ z. omega arith) in let e = next_of_lem c-links-from.ensures c-loop.cursor c-next.ensures (omega arith) in omega arith))
 
 add-t19 : tie.Need-overflow-add-t19 invariant-loop decreases-loop
 add-t19 c =
@@ -97,7 +97,7 @@ add-t19 c =
     let p2 = p1.before.before.before.before.before.before.before in
     let c-links-from = p2.links-from in
     let c-pre = p2.before.before.before.requires in
-    let u = leaf-under c-pre.0 c-pre.1.2 c-loop.invariant.1 c-pre.2 c-pre.3 (λ z. omega arith) c-next.result (next-of c-links-from.ensures c-loop.cursor c-next.ensures (omega arith)) (value-of c-links-from.ensures c-loop.cursor c-value.ensures (omega arith)) in let f = vertices-few c-pre.1.2.walking.ready.based c-pre.0 in omega arith
+    let u = leaf_under c-pre.0 c-pre.1.2 c-loop.invariant.1 c-pre.2 c-pre.3 (λ z. omega arith) c-next.result (next_of_lem c-links-from.ensures c-loop.cursor c-next.ensures (omega arith)) (value_of_lem c-links-from.ensures c-loop.cursor c-value.ensures (omega arith)) in let f = vertices_few c-pre.1.2.walking.ready.based c-pre.0 in omega arith
 
 same_length : tie.Need-same-length invariant-loop decreases-loop
 same_length c =
@@ -109,7 +109,7 @@ returns : tie.Need-returns invariant-loop decreases-loop
 returns c =
     let c-put = c.before.before.before.put in
     let c-if1 = c.before.before.before.before.before.if1 in
-    let c-is-new = c.before.before.before.before.before.before.is-new in
+    let c-is-new = c.before.before.before.before.before.before.is_new in
     let p1 = c.before.before.before.before.before.before.before.before.before in
     let c-next = p1.next in
     let c-value = p1.before.value in
@@ -118,7 +118,7 @@ returns c =
     let c-links-from = p2.links-from in
     let c-pre = p2.before.before.before.requires in
     let c-args = p2.before.before.before.args in
-    rw (c-put.ensures, c-loop.invariant.0) (leaf-found c-pre.0 c-pre.1.2 c-loop.invariant.1 c-pre.2 c-pre.3 (λ z. omega arith) c-next.result (next-of c-links-from.ensures c-loop.cursor c-next.ensures (omega arith)) (value-of c-links-from.ensures c-loop.cursor c-value.ensures (omega arith)) (is-new c-args.b (c-args.b.atoms + c-value.result) c-loop.invariant.0 c-is-new.ensures c-if1.true))
+    rw (c-put.ensures, c-loop.invariant.0) (leaf_found c-pre.0 c-pre.1.2 c-loop.invariant.1 c-pre.2 c-pre.3 (λ z. omega arith) c-next.result (next_of_lem c-links-from.ensures c-loop.cursor c-next.ensures (omega arith)) (value_of_lem c-links-from.ensures c-loop.cursor c-value.ensures (omega arith)) (is_new c-args.b (c-args.b.atoms + c-value.result) c-loop.invariant.0 c-is-new.ensures c-if1.true))
 
 loop-less : tie.Need-loop-smaller invariant-loop decreases-loop
 loop-less c =
@@ -129,12 +129,12 @@ loop-less c =
     let c-links-from = p2.links-from in
     let c-args = p2.before.before.before.args in
     let c-pre = p2.before.before.before.requires in
-    rw (next-of c-links-from.ensures c-loop.cursor c-next.ensures (omega arith)) (chain-falls c-args.graph.now (leaf-ends c-pre.0 c-pre.1.2 c-loop.invariant.1 c-pre.2 c-pre.3 (λ z. omega arith)) (λ z. omega arith))
+    rw (next_of_lem c-links-from.ensures c-loop.cursor c-next.ensures (omega arith)) (chain_falls c-args.graph.now (leaf_ends c-pre.0 c-pre.1.2 c-loop.invariant.1 c-pre.2 c-pre.3 (λ z. omega arith)) (λ z. omega arith))
 
 loop-again : tie.Need-loop-preserved invariant-loop decreases-loop
 loop-again c =
     let c-if1 = c.if1 in
-    let c-is-new = c.before.is-new in
+    let c-is-new = c.before.is_new in
     let p1 = c.before.before.before.before in
     let c-next = p1.next in
     let c-value = p1.before.value in
@@ -143,7 +143,7 @@ loop-again c =
     let c-links-from = p2.links-from in
     let c-pre = p2.before.before.before.requires in
     let c-args = p2.before.before.before.args in
-    (c-loop.invariant.0, λ top done o. leaf-passed c-pre.0 o c-loop.invariant.1 c-pre.2 c-pre.3 (λ z. omega arith) c-next.result (next-of c-links-from.ensures c-loop.cursor c-next.ensures (omega arith)) (value-of c-links-from.ensures c-loop.cursor c-value.ensures (omega arith)) (not_new c-args.b (c-args.b.atoms + c-value.result) c-loop.invariant.0 c-is-new.ensures c-if1.false))
+    (c-loop.invariant.0, λ top done o. leaf_passed c-pre.0 o c-loop.invariant.1 c-pre.2 c-pre.3 (λ z. omega arith) c-next.result (next_of_lem c-links-from.ensures c-loop.cursor c-next.ensures (omega arith)) (value_of_lem c-links-from.ensures c-loop.cursor c-value.ensures (omega arith)) (not_new c-args.b (c-args.b.atoms + c-value.result) c-loop.invariant.0 c-is-new.ensures c-if1.false))
 
 put-requires-2 : tie.Need-put-requires-2 invariant-loop decreases-loop
 put-requires-2 c κs =
@@ -165,7 +165,7 @@ returns-2 c =
     let c-loop = p1.loop in
     let p2 = p1.before.before.before.before.before.before.before in
     let c-pre = p2.requires in
-    rw (c-put2.ensures, c-loop.invariant.0) (inputs-done c-pre.0 c-pre.1.2 c-loop.invariant.1 c-pre.2 (omega arith))
+    rw (c-put2.ensures, c-loop.invariant.0) (inputs_done c-pre.0 c-pre.1.2 c-loop.invariant.1 c-pre.2 (omega arith))
 
 pub look-leaf-spec : {M : Type 1} → statement M
 look-leaf-spec =

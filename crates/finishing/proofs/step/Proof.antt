@@ -1,8 +1,8 @@
 use native.Mathlib.Omega.{arith}
-use Rattle.finishing.proofs.PlaceLaws.{vertices-few}
-use Rattle.finishing.proofs.StepLaws.{top-place}
-use Rattle.finishing.proofs.DescentLaws.{step-onward}
-use Rattle.finishing.proofs.PassedLaws.{as-top, done-finishing, done-step, vertex-meeting, vertex-step, vertex-top, vertex-first}
+use Rattle.finishing.proofs.PlaceLaws.{vertices_few}
+use Rattle.finishing.proofs.StepLaws.{top_place}
+use Rattle.finishing.proofs.DescentLaws.{step_onward}
+use Rattle.finishing.proofs.PassedLaws.{as_top, done_finishing, done_step, vertex_meeting, vertex_step, vertex_top, vertex_first}
 use borrow.Author.Rules.{rules}
 use Rattle.finishing.proofs.step.Statement.{statement}
 use Rattle.finishing.proofs.step.Tie as tie
@@ -14,13 +14,13 @@ add_at : tie.Need-overflow-add-at
 add_at c =
     let p1 = c.before.before.before.before in
     let c-pre = p1.requires in
-    let p = top-place c-pre.1 c-pre.2 in omega arith
+    let p = top_place c-pre.1 c-pre.2 in omega arith
 
 at-requires : tie.Need-at-requires
 at-requires c κs =
     let p1 = c.before.before.before.before in
     let c-pre = p1.requires in
-    top-place c-pre.1 c-pre.2
+    top_place c-pre.1 c-pre.2
 
 look-requires : tie.Need-look-requires
 look-requires c κs =
@@ -28,7 +28,7 @@ look-requires c κs =
     let p1 = c.before.before.before.before.before.before in
     let c-pre = p1.requires in
     let c-args = p1.args in
-    (c-pre.0, (c-args.top, c-args.done, as-top c-pre.1 c-pre.2 c-at.ensures.0))
+    (c-pre.0, (c-args.top, c-args.done, as_top c-pre.1 c-pre.2 c-at.ensures.0))
 
 enum_told : tie.Need-enum-told
 enum_told c = search rules
@@ -41,7 +41,7 @@ finish-requires c κs =
     let c-at = p1.before.before.at in
     let p2 = p1.before.before.before.before.before.before.before in
     let c-pre = p2.requires in
-    done-finishing (as-top c-pre.1 c-pre.2 c-at.ensures.0) (rw c-enum-told.given.1 at c_look.ensures) c-pre.0 (omega arith)
+    done_finishing (as_top c-pre.1 c-pre.2 c-at.ensures.0) (rw c-enum-told.given.1 at c_look.ensures) c-pre.0 (omega arith)
 
 enum-known-entry : tie.Need-enum-known-entry
 enum-known-entry c = search rules
@@ -54,7 +54,7 @@ meet-requires c κs =
     let c-at = p1.before.before.at in
     let p2 = p1.before.before.before.before.before.before.before in
     let c-pre = p2.requires in
-    (c-pre.0, vertex-meeting (as-top c-pre.1 c-pre.2 c-at.ensures.0) c-pre.0 (rw c-entry.given.1 at c_look.ensures))
+    (c-pre.0, vertex_meeting (as_top c-pre.1 c-pre.2 c-at.ensures.0) c-pre.0 (rw c-entry.given.1 at c_look.ensures))
 
 add-through : tie.Need-overflow-add-through
 add-through c =
@@ -65,7 +65,7 @@ add-through c =
     let c-at = p2.before.before.at in
     let p3 = p2.before.before.before.before.before.before.before in
     let c-pre = p3.requires in
-    let m = (vertex-meeting (as-top c-pre.1 c-pre.2 c-at.ensures.0) c-pre.0 (rw c-entry.given.1 at c_look.ensures)).room in let f = vertices-few c-pre.1.ready.based c-pre.0 in omega arith
+    let m = (vertex_meeting (as_top c-pre.1 c-pre.2 c-at.ensures.0) c-pre.0 (rw c-entry.given.1 at c_look.ensures)).room in let f = vertices_few c-pre.1.ready.based c-pre.0 in omega arith
 
 through-requires : tie.Need-through-requires
 through-requires c κs =
@@ -77,9 +77,9 @@ through-requires c κs =
     let c-at = p2.before.before.at in
     let p3 = p2.before.before.before.before.before.before.before in
     let c-pre = p3.requires in
-    let o = as-top c-pre.1 c-pre.2 c-at.ensures.0 in
+    let o = as_top c-pre.1 c-pre.2 c-at.ensures.0 in
     let f = rw c-entry.given.1 at c_look.ensures in
-    (c-pre.0, rw c-meet.ensures (vertex-top o c-pre.0 f), rw c-meet.ensures (vertex-first o c-pre.0 f))
+    (c-pre.0, rw c-meet.ensures (vertex_top o c-pre.0 f), rw c-meet.ensures (vertex_first o c-pre.0 f))
 
 same_length : tie.Need-same-length
 same_length c = search rules
@@ -94,7 +94,7 @@ returns c =
     let c-at = p2.before.before.at in
     let p3 = p2.before.before.before.before.before.before.before in
     let c-pre = p3.requires in
-    rw (c-finish.ensures.0, c-finish.ensures.1, c-finish.ensures.2) (done-step (as-top c-pre.1 c-pre.2 c-at.ensures.0) (rw c-enum-told.given.1 at c_look.ensures))
+    rw (c-finish.ensures.0, c-finish.ensures.1, c-finish.ensures.2) (done_step (as_top c-pre.1 c-pre.2 c-at.ensures.0) (rw c-enum-told.given.1 at c_look.ensures))
 
 same-length-2 : tie.Need-same-length-2
 same-length-2 c = search rules
@@ -110,7 +110,7 @@ returns-2 c =
     let c-at = p2.before.before.at in
     let p3 = p2.before.before.before.before.before.before.before in
     let c-pre = p3.requires in
-    step-onward (vertex-step (as-top c-pre.1 c-pre.2 c-at.ensures.0) c-pre.0 (rw c-entry.given.1 at c_look.ensures)) (rw c-meet.ensures at c-through.ensures)
+    step_onward (vertex_step (as_top c-pre.1 c-pre.2 c-at.ensures.0) c-pre.0 (rw c-entry.given.1 at c_look.ensures)) (rw c-meet.ensures at c-through.ensures)
 
 pub step_spec : {M : Type 1} → statement M
 step_spec =

@@ -1,10 +1,10 @@
 use mathlib.Core.Path.{sym, ◌∙◌}
 use native.Mathlib.Omega.{arith}
-use borrow.Author.Tests.{not-false}
-use Rattle.finishing.proofs.CursorLaws.{node_in, node-kind, node-says, first_some}
-use Rattle.finishing.proofs.PlaceLaws.{vertices-few, atoms_are}
-use Rattle.finishing.proofs.DescentLaws.{onward-none, stepped-onward}
-use Rattle.finishing.proofs.PassedLaws.{top-under, done-finishing, done-step, vertex-meeting, vertex-step}
+use borrow.Author.Tests.{not_false}
+use Rattle.finishing.proofs.CursorLaws.{node_in, node_kind, node_says, first_some}
+use Rattle.finishing.proofs.PlaceLaws.{vertices_few, atoms_are}
+use Rattle.finishing.proofs.DescentLaws.{onward_none, stepped_onward}
+use Rattle.finishing.proofs.PassedLaws.{top_under, done_finishing, done_step, vertex_meeting, vertex_step}
 use borrow.Author.Rules.{rules}
 use Rattle.finishing.proofs.through.Statement.{statement}
 use Rattle.finishing.proofs.through.Tie as tie
@@ -13,14 +13,14 @@ returns : tie.Need-returns
 returns c =
     let p1 = c.before.before.before.before in
     let c-pre = p1.requires in
-    onward-none c-pre.1.walking
+    onward_none c-pre.1.walking
 
 kind-requires : tie.Need-kind-requires
 kind-requires c κs =
     let c-if1 = c.before.if1 in
     let p1 = c.before.before.before.before.before in
     let c-pre = p1.requires in
-    node_in _ c-pre.0 (top-under c-pre.1) (atoms_are c-pre.1.walking.ready.based) c-if1.false
+    node_in _ c-pre.0 (top_under c-pre.1) (atoms_are c-pre.1.walking.ready.based) c-if1.false
 
 takes-operand-requires : tie.Need-takes-operand-requires
 takes-operand-requires c κs =
@@ -28,13 +28,13 @@ takes-operand-requires c κs =
     let c-if1 = c.before.before.if1 in
     let p1 = c.before.before.before.before.before.before in
     let c-pre = p1.requires in
-    node-kind _ c-pre.0 (top-under c-pre.1) (atoms_are c-pre.1.walking.ready.based) c-if1.false c-kind.ensures
+    node_kind _ c-pre.0 (top_under c-pre.1) (atoms_are c-pre.1.walking.ready.based) c-if1.false c-kind.ensures
 
 returns-2 : tie.Need-returns-2
 returns-2 c =
     let p1 = c.before.before.before.before.before.before.before.before in
     let c-pre = p1.requires in
-    onward-none c-pre.1.walking
+    onward_none c-pre.1.walking
 
 take-operand-requires : tie.Need-take-operand-requires
 take-operand-requires c κs =
@@ -46,9 +46,9 @@ take-operand-requires c κs =
     let p2 = p1.before.before.before.before in
     let c-pre = p2.requires in
     let c-args = p2.args in
-    let low = top-under c-pre.1 in
+    let low = top_under c-pre.1 in
     let atoms = atoms_are c-pre.1.walking.ready.based in
-    let q = sym (node-says _ c-pre.0 low atoms c-if1.false c-kind.ensures c-takes-operand.ensures) ∙ not-false c-takes-operand.result c-if2.false in
+    let q = sym (node_says _ c-pre.0 low atoms c-if1.false c-kind.ensures c-takes-operand.ensures) ∙ not_false c-takes-operand.result c-if2.false in
     ((c-pre.0, (c-args.top, c-args.done, c-pre.1), c-if1.false, q), first_some _ c-pre.0 low atoms c-if1.false q c-pre.2)
 
 enum_told : tie.Need-enum-told
@@ -61,7 +61,7 @@ finish-requires c κs =
     let c-take-operand = p1.take-operand in
     let p2 = p1.before.before.before.before.before.before.before.before.before.before in
     let c-pre = p2.requires in
-    done-finishing c-pre.1 (rw c-enum-told.given.1 at c-take-operand.ensures) c-pre.0 (omega arith)
+    done_finishing c-pre.1 (rw c-enum-told.given.1 at c-take-operand.ensures) c-pre.0 (omega arith)
 
 enum-known-entry : tie.Need-enum-known-entry
 enum-known-entry c = search rules
@@ -73,7 +73,7 @@ meet-requires c κs =
     let c-take-operand = p1.take-operand in
     let p2 = p1.before.before.before.before.before.before.before.before.before.before in
     let c-pre = p2.requires in
-    (c-pre.0, vertex-meeting c-pre.1 c-pre.0 (rw c-entry.given.1 at c-take-operand.ensures))
+    (c-pre.0, vertex_meeting c-pre.1 c-pre.0 (rw c-entry.given.1 at c-take-operand.ensures))
 
 add-t21 : tie.Need-overflow-add-t21
 add-t21 c =
@@ -83,7 +83,7 @@ add-t21 c =
     let c-take-operand = p2.take-operand in
     let p3 = p2.before.before.before.before.before.before.before.before.before.before in
     let c-pre = p3.requires in
-    let m = (vertex-meeting c-pre.1 c-pre.0 (rw c-entry.given.1 at c-take-operand.ensures)).room in let f = vertices-few c-pre.1.walking.ready.based c-pre.0 in omega arith
+    let m = (vertex_meeting c-pre.1 c-pre.0 (rw c-entry.given.1 at c-take-operand.ensures)).room in let f = vertices_few c-pre.1.walking.ready.based c-pre.0 in omega arith
 
 same_length : tie.Need-same-length
 same_length c = search rules
@@ -97,7 +97,7 @@ returns-3 c =
     let c-take-operand = p2.take-operand in
     let p3 = p2.before.before.before.before.before.before.before.before.before.before in
     let c-pre = p3.requires in
-    rw (c-finish.ensures.0, c-finish.ensures.1, c-finish.ensures.2) (stepped-onward (done-step c-pre.1 (rw c-enum-told.given.1 at c-take-operand.ensures)))
+    rw (c-finish.ensures.0, c-finish.ensures.1, c-finish.ensures.2) (stepped_onward (done_step c-pre.1 (rw c-enum-told.given.1 at c-take-operand.ensures)))
 
 same-length-2 : tie.Need-same-length-2
 same-length-2 c = search rules
@@ -111,7 +111,7 @@ returns-4 c =
     let c-take-operand = p2.take-operand in
     let p3 = p2.before.before.before.before.before.before.before.before.before.before in
     let c-pre = p3.requires in
-    rw c-meet.ensures (stepped-onward (vertex-step c-pre.1 c-pre.0 (rw c-entry.given.1 at c-take-operand.ensures)))
+    rw c-meet.ensures (stepped_onward (vertex_step c-pre.1 c-pre.0 (rw c-entry.given.1 at c-take-operand.ensures)))
 
 pub through-spec : {M : Type 1} → statement M
 through-spec =

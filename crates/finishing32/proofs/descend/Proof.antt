@@ -1,6 +1,6 @@
 -- Written by tools/widen from crates/finishing/proofs/descend/Proof.antt: edit that one.
 use Rattle.finishing.specs.Walking.{ahead, Walked}
-use Rattle.finishing.proofs.DescentLaws.{walked_none, walked_on, root-entered, descended}
+use Rattle.finishing.proofs.DescentLaws.{walked_none, walked_on, root_entered, descended}
 use borrow.Author.Rules.{rules}
 use Rattle.finishing32.proofs.descend.Statement.{statement}
 use Rattle.finishing32.proofs.descend.Tie as tie
@@ -21,7 +21,7 @@ loop-holds c =
     let c_enter = c.before.before.enter in
     let p1 = c.before.before.before.before.before.before in
     let c-pre = p1.requires in
-    walked_none (root-entered c-pre.1 c-pre.2 c-pre.0 c_enter.ensures).0.walking
+    walked_none (root_entered c-pre.1 c-pre.2 c-pre.0 c_enter.ensures).0.walking
 
 step-requires : tie.Need-step-requires invariant-loop decreases-loop
 step-requires c κs =

@@ -2,16 +2,16 @@
 use mathlib.Core.Logic.{◌≢◌}
 use Prim.Native.Nat.{ℕ, ◌+◌, ◌-◌, ◌<◌}
 use native.Mathlib.Omega.{arith}
-use Rattle.area.specs.Views.{markIn}
+use Rattle.area.specs.Views.{mark_in}
 use Rattle.finishing.specs.Walking.{Walked}
-use Rattle.finishing.proofs.PlaceLaws.{vertices-are}
-use Rattle.finishing.proofs.DescentLaws.{walked_none, walk_start, roots-more, walk_end}
+use Rattle.finishing.proofs.PlaceLaws.{vertices_are}
+use Rattle.finishing.proofs.DescentLaws.{walked_none, walk_start, roots_more, walk_end}
 use borrow.Author.Rules.{rules}
 use Rattle.finishing32.proofs.finish_order.Statement.{statement}
 use Rattle.finishing32.proofs.finish_order.Tie as tie
 
 abbrev invariant-loop : tie.invariant-loop
-invariant-loop graph work₀ b done₀ root₀ work done root = Walked graph b work₀ work 0 done × ((v : ℕ) → v < root → markIn b work v ≢ 1)
+invariant-loop graph work₀ b done₀ root₀ work done root = Walked graph b work₀ work 0 done × ((v : ℕ) → v < root → mark_in b work v ≢ 1)
 
 abbrev decreases-loop : tie.decreases-loop
 decreases-loop graph work₀ b done₀ root₀ work done root = b.atoms + b.nodes - root
@@ -33,7 +33,7 @@ descend-requires c κs =
     let c-loop = c.before.before.before.loop in
     let p1 = c.before.before.before.before.before.before in
     let c-pre = p1.requires in
-    (c-pre.0, c-loop.invariant.0.walking, (let e = vertices-are c-pre.1.based in let t = c-if1.true in omega arith))
+    (c-pre.0, c-loop.invariant.0.walking, (let e = vertices_are c-pre.1.based in let t = c-if1.true in omega arith))
 
 add-root : tie.Need-overflow-add-root invariant-loop decreases-loop
 add-root c =
@@ -57,7 +57,7 @@ loop-again c =
     let c-loop = p1.before.before.loop in
     let p2 = p1.before.before.before.before.before in
     let c-pre = p2.requires in
-    roots-more (let e = vertices-are c-pre.1.based in let t = c-if1.true in omega arith) c-loop.invariant.0 c-loop.invariant.1 c-descend.ensures
+    roots_more (let e = vertices_are c-pre.1.based in let t = c-if1.true in omega arith) c-loop.invariant.0 c-loop.invariant.1 c-descend.ensures
 
 same_length : tie.Need-same-length invariant-loop decreases-loop
 same_length c =
@@ -70,7 +70,7 @@ returns c =
     let c-loop = c.before.before.loop in
     let p1 = c.before.before.before.before.before in
     let c-pre = p1.requires in
-    walk_end c-loop.invariant.0 (λ v l. c-loop.invariant.1 v (let e = vertices-are c-pre.1.based in let t = c-if1.false in omega arith))
+    walk_end c-loop.invariant.0 (λ v l. c-loop.invariant.1 v (let e = vertices_are c-pre.1.based in let t = c-if1.false in omega arith))
 
 pub finish-order-spec : {M : Type 1} → statement M
 finish-order-spec =

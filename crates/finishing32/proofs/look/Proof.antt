@@ -1,8 +1,8 @@
 -- Written by tools/widen from crates/finishing/proofs/look/Proof.antt: edit that one.
 use mathlib.Core.Path.{sym, ◌∙◌}
-use Rattle.finishing.proofs.CursorLaws.{node_in, node-kind, node-says}
+use Rattle.finishing.proofs.CursorLaws.{node_in, node_kind, node_says}
 use Rattle.finishing.proofs.PlaceLaws.{atoms_are}
-use Rattle.finishing.proofs.PassedLaws.{top-under}
+use Rattle.finishing.proofs.PassedLaws.{top_under}
 use borrow.Author.Rules.{rules}
 use Rattle.finishing32.proofs.look.Statement.{statement}
 use Rattle.finishing32.proofs.look.Tie as tie
@@ -20,14 +20,14 @@ kind-requires : tie.Need-kind-requires
 kind-requires c κs =
     let c-if1 = c.before.if1 in
     let c-pre = c.before.before.before.before.before.requires in
-    node_in _ c-pre.0 (top-under c-pre.1.2) (atoms_are c-pre.1.2.walking.ready.based) c-if1.false
+    node_in _ c-pre.0 (top_under c-pre.1.2) (atoms_are c-pre.1.2.walking.ready.based) c-if1.false
 
 takes-operand-requires : tie.Need-takes-operand-requires
 takes-operand-requires c κs =
     let c-kind = c.kind in
     let c-if1 = c.before.before.if1 in
     let c-pre = c.before.before.before.before.before.before.requires in
-    node-kind _ c-pre.0 (top-under c-pre.1.2) (atoms_are c-pre.1.2.walking.ready.based) c-if1.false c-kind.ensures
+    node_kind _ c-pre.0 (top_under c-pre.1.2) (atoms_are c-pre.1.2.walking.ready.based) c-if1.false c-kind.ensures
 
 look-operand-requires : tie.Need-look-operand-requires
 look-operand-requires c κs =
@@ -36,7 +36,7 @@ look-operand-requires c κs =
     let c-kind = c.before.before.before.kind in
     let c-if1 = c.before.before.before.before.before.if1 in
     let c-pre = c.before.before.before.before.before.before.before.before.before.requires in
-    (c-pre.0, c-pre.1, c-if1.false, (sym (node-says _ c-pre.0 (top-under c-pre.1.2) (atoms_are c-pre.1.2.walking.ready.based) c-if1.false c-kind.ensures c-takes-operand.ensures) ∙ c-if2.true))
+    (c-pre.0, c-pre.1, c-if1.false, (sym (node_says _ c-pre.0 (top_under c-pre.1.2) (atoms_are c-pre.1.2.walking.ready.based) c-if1.false c-kind.ensures c-takes-operand.ensures) ∙ c-if2.true))
 
 same-length-2 : tie.Need-same-length-2
 same-length-2 c = search rules
@@ -51,7 +51,7 @@ look-leaf-requires c κs =
     let c-kind = c.before.before.before.kind in
     let c-if1 = c.before.before.before.before.before.if1 in
     let c-pre = c.before.before.before.before.before.before.before.before.before.requires in
-    (c-pre.0, c-pre.1, c-if1.false, (sym (node-says _ c-pre.0 (top-under c-pre.1.2) (atoms_are c-pre.1.2.walking.ready.based) c-if1.false c-kind.ensures c-takes-operand.ensures) ∙ c-if2.false))
+    (c-pre.0, c-pre.1, c-if1.false, (sym (node_says _ c-pre.0 (top_under c-pre.1.2) (atoms_are c-pre.1.2.walking.ready.based) c-if1.false c-kind.ensures c-takes-operand.ensures) ∙ c-if2.false))
 
 same-length-3 : tie.Need-same-length-3
 same-length-3 c = search rules

@@ -1,4 +1,4 @@
-use Rattle.founded.specs.Answers.{badLengths}
+use Rattle.founded.specs.Answers.{bad_lengths}
 use borrow.Author.Rules.{rules}
 use Rattle.founded.proofs.bad_lengths.Statement.{statement}
 use Rattle.founded.proofs.bad_lengths.Tie as tie
@@ -13,7 +13,7 @@ bad-mask-requires : tie.Need-bad-mask-requires
 bad-mask-requires c κs = search rules
 
 returns : tie.Need-returns
-unfolding badLengths
+unfolding bad_lengths
 returns c =
     let c-if1 = c.if1 in
     let c-bad-mask = c.before.bad-mask in
@@ -24,7 +24,7 @@ bad-mask-requires-2 : tie.Need-bad-mask-requires-2
 bad-mask-requires-2 c κs = search rules
 
 returns-2 : tie.Need-returns-2
-unfolding badLengths
+unfolding bad_lengths
 returns-2 c =
     let c-if2 = c.if2 in
     let c-bad-mask2 = c.before.bad-mask2 in
@@ -39,7 +39,7 @@ bad-mask-requires-3 : tie.Need-bad-mask-requires-3
 bad-mask-requires-3 c κs = search rules
 
 returns-3 : tie.Need-returns-3
-unfolding badLengths
+unfolding bad_lengths
 returns-3 c =
     let c-bad-mask3 = c.bad-mask3 in
     let c-if2 = c.before.if2 in

@@ -2,10 +2,10 @@ use mathlib.Core.Path.{refl, ◌∙◌}
 use native.Mathlib.Omega.{arith}
 use Rattle.theory.specs.Accepted.{edition1}
 use Rattle.refusals.proofs.AcceptedLaws.{accepted}
-use Rattle.area.proofs.LayoutLaws.{edition1-roomy}
+use Rattle.area.proofs.LayoutLaws.{edition1_roomy}
 use Rattle.preparation.specs.Flags.{Listed}
-use Rattle.founded.proofs.OutcomeLaws.{absorbed-refused, done}
-use Rattle.founded.proofs.CallLaws.{not-zero, completes, mask_fits, output-fits, work-fits}
+use Rattle.founded.proofs.OutcomeLaws.{absorbed_refused, done}
+use Rattle.founded.proofs.CallLaws.{not_zero, completes, mask_fits, output_fits, work_fits}
 use borrow.Author.Rules.{rules}
 use Rattle.founded.proofs.complete_accepted.Statement.{statement}
 use Rattle.founded.proofs.complete_accepted.Tie as tie
@@ -15,7 +15,7 @@ bases-of-requires c κs =
     let p1 = c.before.before.before.before.before in
     let c-args = p1.args in
     let c-pre = p1.requires in
-    let a = accepted edition1 c-args.graph.now c-pre.0 in (a, edition1-roomy a c-pre.2)
+    let a = accepted edition1 c-args.graph.now c-pre.0 in (a, edition1_roomy a c-pre.2)
 
 missing-requires : tie.Need-missing-requires
 missing-requires c κs =
@@ -38,7 +38,7 @@ hand-out-requires c κs =
     let p2 = p1.before.before.before.before.before.before.before.before in
     let c-pre = p2.requires in
     let k = rw c-enum-told.given.1 at c-missing.ensures in
-    (omega (arith, k.size, c-bases-of.ensures.laid, c-bases-of.ensures.ends), mask_fits _ _ (output-fits _ _ _ _ c-pre.1) ∙ rw c-bases-of.ensures.atoms)
+    (omega (arith, k.size, c-bases-of.ensures.laid, c-bases-of.ensures.ends), mask_fits _ _ (output_fits _ _ _ _ c-pre.1) ∙ rw c-bases-of.ensures.atoms)
 
 enum-known-marks : tie.Need-enum-known-marks
 enum-known-marks c = search rules
@@ -66,7 +66,7 @@ returns c =
     let w = c-missing.new.1.1.1.0 in
     let k = rw c-enum-told.given.1 at c-missing.ensures in
     completes
-    (done edition1 _ _ _ _ c-pre.0 c-pre.1 (work-fits edition1 p3.args.graph.now _ c-pre.2) w c-hand-out.ensures.1 c-bases-of.result.dependencies c-bases-of.ensures.atoms k.size k.none k.flags c-hand-out.ensures.0)
+    (done edition1 _ _ _ _ c-pre.0 c-pre.1 (work_fits edition1 p3.args.graph.now _ c-pre.2) w c-hand-out.ensures.1 c-bases-of.result.dependencies c-bases-of.ensures.atoms k.size k.none k.flags c-hand-out.ensures.0)
     (λ q. refl)
 
 same-length-3 : tie.Need-same-length-3
@@ -82,7 +82,7 @@ returns-2 c =
     let c-missing = p2.missing in
     let p3 = p2.before.before.before.before.before.before.before.before in
     let c-pre = p3.requires in
-    completes (absorbed-refused edition1 _ _ _ _ c-pre.0 c-pre.1 (work-fits edition1 p3.args.graph.now _ c-pre.2) _ c-wipe.ensures (rw c-marks.given.1 at c-missing.ensures)) (not-zero refl)
+    completes (absorbed_refused edition1 _ _ _ _ c-pre.0 c-pre.1 (work_fits edition1 p3.args.graph.now _ c-pre.2) _ c-wipe.ensures (rw c-marks.given.1 at c-missing.ensures)) (not_zero refl)
 
 pub complete-accepted-spec : {M : Type 1} → statement M
 complete-accepted-spec =

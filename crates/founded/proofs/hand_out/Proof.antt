@@ -1,7 +1,7 @@
 use mathlib.Core.Path.{◌∙◌}
 use native.Mathlib.Omega.{arith}
 use Prim.Native.Nat.{◌+◌, ◌-◌}
-use Rattle.founded.proofs.OutputLaws.{part-pack}
+use Rattle.founded.proofs.OutputLaws.{part_pack}
 use borrow.Author.Rules.{rules}
 use Rattle.founded.proofs.hand_out.Statement.{statement}
 use Rattle.founded.proofs.hand_out.Tie as tie
@@ -41,7 +41,7 @@ returns c =
     let p2 = p1.before.before.before.before.before.before in
     let c-args = p2.args in
     let c-pre = p2.requires in
-    let from = c-args.from in let n = c-args.atoms in (c-pack-flags.ensures ∙ part-pack from n (from + n - from) c-args.words.now c-pre.0 (omega arith), c-wipe.ensures)
+    let from = c-args.from in let n = c-args.atoms in (c-pack-flags.ensures ∙ part_pack from n (from + n - from) c-args.words.now c-pre.0 (omega arith), c-wipe.ensures)
 
 pub hand-out-spec : {M : Type 1} → statement M
 hand-out-spec =

@@ -7,8 +7,8 @@ use Rattle.theory.specs.Accepted.{edition1}
 use Rattle.refusals.specs.Refusals.{answer_of}
 use Rattle.refusals.specs.declared.Checked.TheVariants.{Accepted}
 use Rattle.refusals.proofs.AcceptedLaws.{accepted}
-use Rattle.founded.proofs.OutcomeLaws.{graph-number, graph-refused, lengths-refused, work-refused}
-use Rattle.founded.proofs.CallLaws.{not-zero, prepares, mask-tested, work-bad}
+use Rattle.founded.proofs.OutcomeLaws.{graph_number, graph_refused, lengths_refused, work_refused}
+use Rattle.founded.proofs.CallLaws.{not_zero, prepares, mask_tested, work_bad}
 use borrow.Author.Rules.{rules}
 use Rattle.founded.proofs.prepare.Statement.{statement}
 use Rattle.founded.proofs.prepare.Tie as tie
@@ -24,7 +24,7 @@ returns c =
     let c-match = c.match in
     let c-check = c.before.check in
     let refused : c-check.result ≢ Accepted = λ e. miss (1 ∷ 2 ∷ 3 ∷ 4 ∷ 5 ∷ 6 ∷ 7 ∷ 8 ∷ 9 ∷ 10 ∷ []) 0 tt (rw e at c-match.keys2) in
-    prepares (graph-refused edition1 _ _ _ _ c-check.ensures refused) (not-zero (graph-number _ refused).0)
+    prepares (graph_refused edition1 _ _ _ _ c-check.ensures refused) (not_zero (graph_number _ refused).0)
 
 atoms-requires : tie.Need-atoms-requires
 atoms-requires c κs =
@@ -45,7 +45,7 @@ returns-2 c =
     let c-enum-told = c.before.before.before.enum_told in
     let p1 = c.before.before.before.before.before in
     let c-check = p1.check in
-    prepares (lengths-refused edition1 _ _ _ _ (sym c-check.ensures ∙ ap answer_of c-enum-told.given.1) (mask-tested _ c-bad-mask.ensures c-atoms.ensures c-if1.true)) (not-zero refl)
+    prepares (lengths_refused edition1 _ _ _ _ (sym c-check.ensures ∙ ap answer_of c-enum-told.given.1) (mask_tested _ c-bad-mask.ensures c-atoms.ensures c-if1.true)) (not_zero refl)
 
 words-requires : tie.Need-words-requires
 words-requires c κs =
@@ -63,7 +63,7 @@ returns-3 c =
     let p1 = c.before.before.before.before.before in
     let c-enum-told = p1.enum_told in
     let c-check = p1.before.before.check in
-    prepares (work-refused edition1 _ _ _ _ (sym c-check.ensures ∙ ap answer_of c-enum-told.given.1) (mask-tested _ c-bad-mask.ensures c-atoms.ensures c-if1.false) (work-bad edition1 p1.before.before.before.before.before.before.args.graph.now c-if2.true c-words.ensures)) (not-zero refl)
+    prepares (work_refused edition1 _ _ _ _ (sym c-check.ensures ∙ ap answer_of c-enum-told.given.1) (mask_tested _ c-bad-mask.ensures c-atoms.ensures c-if1.false) (work_bad edition1 p1.before.before.before.before.before.before.args.graph.now c-if2.true c-words.ensures)) (not_zero refl)
 
 prepare-accepted-requires : tie.Need-prepare-accepted-requires
 prepare-accepted-requires c κs =
@@ -76,7 +76,7 @@ prepare-accepted-requires c κs =
     let c-enum-told = p1.before.before.enum_told in
     let p2 = p1.before.before.before.before in
     let c-check = p2.check in
-    (sym c-check.ensures ∙ ap answer_of c-enum-told.given.1, mask-tested _ c-bad-mask.ensures c-atoms.ensures c-if1.false, c-if2.false ∙ c-words.ensures)
+    (sym c-check.ensures ∙ ap answer_of c-enum-told.given.1, mask_tested _ c-bad-mask.ensures c-atoms.ensures c-if1.false, c-if2.false ∙ c-words.ensures)
 
 same_length : tie.Need-same-length
 same_length c = search rules

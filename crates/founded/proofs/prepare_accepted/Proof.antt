@@ -2,10 +2,10 @@ use mathlib.Core.Path.{refl, ◌∙◌}
 use native.Mathlib.Omega.{arith}
 use Rattle.theory.specs.Accepted.{edition1}
 use Rattle.refusals.proofs.AcceptedLaws.{accepted}
-use Rattle.area.proofs.LayoutLaws.{edition1-roomy}
+use Rattle.area.proofs.LayoutLaws.{edition1_roomy}
 use Rattle.preparation.specs.Flags.{Marked}
-use Rattle.founded.proofs.OutcomeLaws.{absorbed-refused, done}
-use Rattle.founded.proofs.CallLaws.{not-zero, prepares, mask_fits, work-fits}
+use Rattle.founded.proofs.OutcomeLaws.{absorbed_refused, done}
+use Rattle.founded.proofs.CallLaws.{not_zero, prepares, mask_fits, work_fits}
 use borrow.Author.Rules.{rules}
 use Rattle.founded.proofs.prepare_accepted.Statement.{statement}
 use Rattle.founded.proofs.prepare_accepted.Tie as tie
@@ -14,7 +14,7 @@ bases-of-requires : tie.Need-bases-of-requires
 bases-of-requires c κs =
     let c-args = c.before.before.before.args in
     let c-pre = c.before.before.before.requires in
-    let a = accepted edition1 c-args.graph.now c-pre.0 in (a, edition1-roomy a c-pre.2)
+    let a = accepted edition1 c-args.graph.now c-pre.0 in (a, edition1_roomy a c-pre.2)
 
 cyclic-atoms-requires : tie.Need-cyclic-atoms-requires
 cyclic-atoms-requires c κs =
@@ -32,7 +32,7 @@ unfolding Marked
 hand-out-requires c κs =
     let c-enum-told = c.before.before.enum_told in
     let p1 = c.before.before.before.before.before.before in
-    let c-cyclic-atoms = p1.cyclic-atoms in
+    let c-cyclic-atoms = p1.cyclic_atoms in
     let c-bases-of = p1.before.before.bases-of in
     let p2 = p1.before.before.before.before.before.before in
     let c-pre = p2.requires in
@@ -58,14 +58,14 @@ returns c =
     let c-hand-out = p1.hand-out in
     let c-enum-told = p1.before.before.before.enum_told in
     let p2 = p1.before.before.before.before.before.before.before in
-    let c-cyclic-atoms = p2.cyclic-atoms in
+    let c-cyclic-atoms = p2.cyclic_atoms in
     let c-bases-of = p2.before.before.bases-of in
     let p3 = p2.before.before.before.before.before.before in
     let c-pre = p3.requires in
     let w = c-cyclic-atoms.new.1.0 in
     let k = rw c-enum-told.given.1 at c-cyclic-atoms.ensures in
     prepares
-    (done edition1 _ _ _ _ c-pre.0 c-pre.1 (work-fits edition1 p3.args.graph.now _ c-pre.2) w c-hand-out.ensures.1 c-bases-of.result.cyclic_atoms c-bases-of.ensures.atoms k.size k.none k.flags c-hand-out.ensures.0)
+    (done edition1 _ _ _ _ c-pre.0 c-pre.1 (work_fits edition1 p3.args.graph.now _ c-pre.2) w c-hand-out.ensures.1 c-bases-of.result.cyclic_atoms c-bases-of.ensures.atoms k.size k.none k.flags c-hand-out.ensures.0)
     (λ q. refl)
 
 same-length-3 : tie.Need-same-length-3
@@ -78,10 +78,10 @@ returns-2 c =
     let p1 = c.before.before.before.before.before in
     let c-marks = p1.marks in
     let p2 = p1.before.before.before.before in
-    let c-cyclic-atoms = p2.cyclic-atoms in
+    let c-cyclic-atoms = p2.cyclic_atoms in
     let p3 = p2.before.before.before.before.before.before in
     let c-pre = p3.requires in
-    prepares (absorbed-refused edition1 _ _ _ _ c-pre.0 c-pre.1 (work-fits edition1 p3.args.graph.now _ c-pre.2) _ c-wipe.ensures (rw c-marks.given.1 at c-cyclic-atoms.ensures)) (not-zero refl)
+    prepares (absorbed_refused edition1 _ _ _ _ c-pre.0 c-pre.1 (work_fits edition1 p3.args.graph.now _ c-pre.2) _ c-wipe.ensures (rw c-marks.given.1 at c-cyclic-atoms.ensures)) (not_zero refl)
 
 pub prepare-accepted-spec : {M : Type 1} → statement M
 prepare-accepted-spec =

@@ -8,8 +8,8 @@ use Rattle.theory.specs.Accepted.{edition2}
 use Rattle.refusals.specs.Refusals.{answer_of}
 use Rattle.refusals.specs.declared.Checked.TheVariants.{Accepted}
 use Rattle.refusals.proofs.AcceptedLaws.{accepted}
-use Rattle.founded.proofs.OutcomeLaws.{graph-number, graph-refused, lengths-refused, work-refused}
-use Rattle.founded.proofs.CallLaws.{not-zero, completes, work-bad}
+use Rattle.founded.proofs.OutcomeLaws.{graph_number, graph_refused, lengths_refused, work_refused}
+use Rattle.founded.proofs.CallLaws.{not_zero, completes, work_bad}
 use borrow.Author.Rules.{rules}
 use Rattle.founded32.proofs.complete.Statement.{statement}
 use Rattle.founded32.proofs.complete.Tie as tie
@@ -25,7 +25,7 @@ returns c =
     let c-match = c.match in
     let c-check = c.before.check in
     let refused : c-check.result ≢ Accepted = λ e. miss (1 ∷ 2 ∷ 3 ∷ 4 ∷ 5 ∷ 6 ∷ 7 ∷ 8 ∷ 9 ∷ 10 ∷ []) 0 tt (rw e at c-match.keys2) in
-    completes (graph-refused edition2 _ _ _ _ c-check.ensures refused) (not-zero (graph-number _ refused).0)
+    completes (graph_refused edition2 _ _ _ _ c-check.ensures refused) (not_zero (graph_number _ refused).0)
 
 bad-lengths-requires : tie.Need-bad-lengths-requires
 bad-lengths-requires c κs =
@@ -42,7 +42,7 @@ returns-2 c =
     let c-enum-told = c.before.before.enum_told in
     let p1 = c.before.before.before.before in
     let c-check = p1.check in
-    completes (lengths-refused edition2 _ _ _ _ (sym c-check.ensures ∙ ap answer_of c-enum-told.given.1) (sym c-bad-lengths.ensures ∙ c-if1.true)) (not-zero refl)
+    completes (lengths_refused edition2 _ _ _ _ (sym c-check.ensures ∙ ap answer_of c-enum-told.given.1) (sym c-bad-lengths.ensures ∙ c-if1.true)) (not_zero refl)
 
 words-requires : tie.Need-words-requires
 words-requires c κs =
@@ -59,7 +59,7 @@ returns-3 c =
     let c-enum-told = c.before.before.before.before.enum_told in
     let p1 = c.before.before.before.before.before.before in
     let c-check = p1.check in
-    completes (work-refused edition2 _ _ _ _ (sym c-check.ensures ∙ ap answer_of c-enum-told.given.1) (sym c-bad-lengths.ensures ∙ c-if1.false) (work-bad edition2 p1.before.before.before.before.before.before.args.graph.now c-if2.true c-words.ensures)) (not-zero refl)
+    completes (work_refused edition2 _ _ _ _ (sym c-check.ensures ∙ ap answer_of c-enum-told.given.1) (sym c-bad-lengths.ensures ∙ c-if1.false) (work_bad edition2 p1.before.before.before.before.before.before.args.graph.now c-if2.true c-words.ensures)) (not_zero refl)
 
 complete-accepted-requires : tie.Need-complete-accepted-requires
 complete-accepted-requires c κs =

@@ -35,9 +35,9 @@ use denote.Triple.Table.{entered, cited}
 use denote.Triple.Walked.{says, needs, Stays, stay_none, stay_none_slice, walk_of, Goes-none, Goes-none_slice, Walks, ends_at, walked, walk_Meets}
 use denote.Exit.{yes}
 use denote.Triple.Clauses.{ensured, lasts}
-use Rattle.graph.specs.Layout.{LinkIn, nextIn}
+use Rattle.graph.specs.Layout.{LinkIn, next_in}
 use Rattle.graph.specs.declared.Chain.{Chain}
-use Rattle.graph.proofs.ReaderLaws.{B, New, Held, passed3, to-new, goes-new, IsNew, new-said, same}
+use Rattle.graph.proofs.ReaderLaws.{B, New, Held, passed3, to_new, goes_new, IsNew, new_said, same}
 use Rattle.graph.specs.contracts.Chain as T
 use Rattle.graph.proofs.Chain.TheLaws as T'
 use Rattle.graph.specs.contracts.chain_of as new
@@ -71,7 +71,7 @@ module _ {M : Type 1} {𝓤 : Ura M} (𝓛 : Logic 𝓤) (mem : Memory → SProp
   open 𝓛 use {H}
 
   abbrev found : ℕ
-  found = nextIn s.now f n
+  found = next_in s.now f n
 
   -- the struct's type as a local of a body has it
   abbrev αᵉ : NamedLft
@@ -94,7 +94,7 @@ module _ {M : Type 1} {𝓤 : Ura M} (𝓛 : Logic 𝓤) (mem : Memory → SProp
       move ! (1 ∷ []) $ frame ! $ nothing ! $ owned ! usize (Is usize) (uint_Makes 𝓛 w64) n _ (refl, ok) $ fjoin ! $ owned ! usize (Is usize) (uint_Makes 𝓛 w64) f _ (refl, low) $ fjoin ! $ move ! (2 ∷ 0 ∷ []) $ fjoin ! $ frame ! $ done !
 
   abbrev IsNext : Chain → Chain → Type 0
-  IsNext r t = (t.words ≡ r.words) × (t.link ≡ nextIn r.words.now f r.link)
+  IsNext r t = (t.words ≡ r.words) × (t.link ≡ next_in r.words.now f r.link)
 
   -- the call of `advance`, at the struct r with the machine value u
   abbrev to-advance : Chain → Val → (Advance 𝓛 mem run).Ghost
@@ -121,10 +121,10 @@ module _ {M : Type 1} {𝓤 : Ura M} (𝓛 : Logic 𝓤) (mem : Memory → SProp
     walk p within =
         qed 𝓛 (raw (on_entry 𝓛 me.signature (κ, tt) (q, tt) (s, (f, (n, tt))) (passed3 s f n)) ∷ []) ∵ enter ! C Λ code.function (v ∷ vint w64 f ∷ vint w64 n ∷ []) _ $
         alloc1 ! (λ l₀. alloc1 ! (λ l₁. alloc1 ! (λ l₂. alloc1 ! (λ l₃. alloc1 ! (λ l₄. alloc1 ! (λ l₅. alloc0 ! $ params1 ! $ pass1 ! (init ! 8 refl ((shr_slice_Lawful 𝓛 (named 0) κ u16).typed s (v ∷ []) p).0) $ pass1 ! (init ! 6 refl (tt, record { fits = low })) $ pass1 ! (init ! 4 refl (tt, record { fits = ok })) $ pass0 ! $
-        move ! (12 ∷ []) $ use1 𝓛 (raw ((New 𝓛 mem run).pre (to-new 𝓛 κ q mem run s f n)) ⊛ ‵ Own) (goes-new 𝓛 κ q mem run s f n) $ split ! $
-        calls_at ! fm (New 𝓛 mem run) known-new (to-new 𝓛 κ q mem run s f n) (and_then ! (load ! (from ! (stop !)) (look ! 10 refl)) (and_then ! (load ! (from ! (stop !)) (look ! 6 refl)) (no_more !))) (λ u.
+        move ! (12 ∷ []) $ use1 𝓛 (raw ((New 𝓛 mem run).pre (to_new 𝓛 κ q mem run s f n)) ⊛ ‵ Own) (goes_new 𝓛 κ q mem run s f n) $ split ! $
+        calls_at ! fm (New 𝓛 mem run) known-new (to_new 𝓛 κ q mem run s f n) (and_then ! (load ! (from ! (stop !)) (look ! 10 refl)) (and_then ! (load ! (from ! (stop !)) (look ! 6 refl)) (no_more !))) (λ u.
         use1 𝓛 (later (some (λ (r : Chain). ((‵ (flft κ q) ⊛ ‵ ftrue) ⊛ ‵ ((B (κ, tt)).own_val r (u ∷ []))) ⊛ raw (ensured 𝓛 new.ended (new.clauses 𝓛 mem run) (κ, tt) (s, (n, tt)) tt r)))) (id⊢ 𝓤 _) $ await ! tt $ pick ! (λ r.
-        split ! $ move ! (1 ∷ []) $ use1 𝓛 (raw (fact 𝓤 (IsNew 𝓛 κ q mem run s f n r))) (new-said 𝓛 κ q mem run s f n r) $ heard ! (IsNew 𝓛 κ q mem run s f n r) (λ e. split ! $ move ! (1 ∷ []) $
+        split ! $ move ! (1 ∷ []) $ use1 𝓛 (raw (fact 𝓤 (IsNew 𝓛 κ q mem run s f n r))) (new_said 𝓛 κ q mem run s f n r) $ heard ! (IsNew 𝓛 κ q mem run s f n r) (λ e. split ! $ move ! (1 ∷ []) $
         -- [what the struct owns; the token; what s owns; room for _5; …; _4; …; _3; …; _2; …; _1; …; room for _0; …]
         peeks ! (B (κ, tt)) (Is (B (κ, tt))) (shows 𝓛 (B (κ, tt))) r (u ∷ []) (λ is.
         land ! (from ! (stop !)) (init ! 3 refl ((LL.lawful (T.the_type αᵉ) (T'.the_laws αᵉ) 𝓛).typed r _ is).0) $
@@ -142,7 +142,7 @@ module _ {M : Type 1} {𝓤 : Ura M} (𝓛 : Logic 𝓤) (mem : Memory → SProp
         peeks ! usize (Is usize) (shows 𝓛 usize) t (u₃ ∷ []) (λ is₃.
         land ! (from ! (stop !)) (init ! 13 refl ((uint_Lawful 𝓛 w64).typed t _ is₃).0) $
         returns ! (look ! 13 refl) $ forget ! 3 refl $ forget ! 5 refl $ forget ! 7 refl $ forget ! 9 refl $ forget ! 11 refl $ forget ! 13 refl $ move ! (13 ∷ 14 ∷ []) $ free1 ! $ move ! (11 ∷ 12 ∷ []) $ free1 ! $ move ! (9 ∷ 10 ∷ []) $ free1 ! $ move ! (7 ∷ 8 ∷ []) $ free1 ! $ move ! (5 ∷ 6 ∷ []) $ free1 ! $ move ! (3 ∷ 4 ∷ []) $ free1 ! $ free0 ! $
-        by ! (exits t u₃ (e₃ ∙ e₂.1 ∙ (ap (λ (x : Bor (List ℕ)). nextIn x.now f r.link) e.0 ∙ ap (nextIn s.now f) e.1)))))))))))))))))))))
+        by ! (exits t u₃ (e₃ ∙ e₂.1 ∙ (ap (λ (x : Bor (List ℕ)). next_in x.now f r.link) e.0 ∙ ap (next_in s.now f) e.1)))))))))))))))))))))
 
 module _ {M : Type 1} {𝓤 : Ura M} (𝓛 : Logic 𝓤) (mem : Memory → SProp 𝓤) (run : Routine → Fun 𝓤) where
   open 𝓛 use {H}

@@ -1,4 +1,4 @@
-use Rattle.graph.specs.Layout.{nextIn}
+use Rattle.graph.specs.Layout.{next_in}
 use borrow.Author.Rules.{rules}
 use Rattle.graph.proofs.next_at.Statement.{statement}
 use Rattle.graph.proofs.next_at.Tie as tie
@@ -16,7 +16,7 @@ at-requires : tie.Need-at-requires
 at-requires c κs = search rules
 
 returns : tie.Need-returns
-unfolding nextIn
+unfolding next_in
 returns c = c.at.ensures.0
 
 pub next-at-spec : {M : Type 1} → statement M

@@ -1,4 +1,4 @@
-use Rattle.graph.specs.Layout.{valueIn}
+use Rattle.graph.specs.Layout.{value_in}
 use borrow.Author.Rules.{rules}
 use Rattle.graph.proofs.value_at.Statement.{statement}
 use Rattle.graph.proofs.value_at.Tie as tie
@@ -16,7 +16,7 @@ at-requires : tie.Need-at-requires
 at-requires c κs = search rules
 
 returns : tie.Need-returns
-unfolding valueIn
+unfolding value_in
 returns c = c.at.ensures.0
 
 pub value-at-spec : {M : Type 1} → statement M

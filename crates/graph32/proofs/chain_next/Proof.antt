@@ -41,7 +41,7 @@ use denote.Triple.Table.{entered, cited}
 use denote.Triple.Walked.{says, needs, Stays, stay_none, walk_of, Goes-none, Walks, ends_at, walked, walk_Meets}
 use denote.Exit.{yes}
 use denote.Triple.Clauses.{ensured, lasts}
-use Rattle.graph.specs.Layout.{LinkIn, nextIn}
+use Rattle.graph.specs.Layout.{LinkIn, next_in}
 use Rattle.graph32.specs.declared.Chain.{Chain}
 use Rattle.graph32.proofs.ReaderLaws.{B, passed3, apart}
 use Rattle.graph32.specs.contracts.Chain as T
@@ -66,7 +66,7 @@ module _ {M : Type 1} {𝓤 : Ura M} (𝓛 : Logic 𝓤) (mem : Memory → SProp
   open 𝓛 use {H, A}
 
   abbrev found : ℕ
-  found = nextIn d.words.now f d.link
+  found = next_in d.words.now f d.link
 
   abbrev mach : Val
   mach = T'.lowered d

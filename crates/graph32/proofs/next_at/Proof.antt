@@ -1,5 +1,5 @@
 -- Written by tools/widen from crates/graph/proofs/next_at/Proof.antt: edit that one.
-use Rattle.graph.specs.Layout.{nextIn}
+use Rattle.graph.specs.Layout.{next_in}
 use borrow.Author.Rules.{rules}
 use Rattle.graph32.proofs.next_at.Statement.{statement}
 use Rattle.graph32.proofs.next_at.Tie as tie
@@ -17,7 +17,7 @@ at-requires : tie.Need-at-requires
 at-requires c κs = search rules
 
 returns : tie.Need-returns
-unfolding nextIn
+unfolding next_in
 returns c = c.at.ensures.0
 
 pub next-at-spec : {M : Type 1} → statement M

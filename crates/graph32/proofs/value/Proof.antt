@@ -36,9 +36,9 @@ use denote.Triple.Table.{entered, cited}
 use denote.Triple.Walked.{says, needs, Stays, stay_none, stay_none_slice, walk_of, Goes-none, Goes-none_slice, Walks, ends_at, walked, walk_Meets}
 use denote.Exit.{yes}
 use denote.Triple.Clauses.{ensured, lasts}
-use Rattle.graph.specs.Layout.{LinkIn, valueIn}
+use Rattle.graph.specs.Layout.{LinkIn, value_in}
 use Rattle.graph32.specs.declared.Chain.{Chain}
-use Rattle.graph32.proofs.ReaderLaws.{B, New, Held, passed3, to-new, goes-new, IsNew, new-said, same}
+use Rattle.graph32.proofs.ReaderLaws.{B, New, Held, passed3, to_new, goes_new, IsNew, new_said, same}
 use Rattle.graph32.specs.contracts.Chain as T
 use Rattle.graph32.proofs.Chain.TheLaws as T'
 use Rattle.graph32.specs.contracts.chain_of as new
@@ -65,7 +65,7 @@ module _ {M : Type 1} {𝓤 : Ura M} (𝓛 : Logic 𝓤) (mem : Memory → SProp
   open 𝓛 use {H}
 
   abbrev found : ℕ
-  found = valueIn s.now f n
+  found = value_in s.now f n
 
   -- the struct's type as a local of a body has it
   abbrev αᵉ : NamedLft
@@ -94,30 +94,30 @@ module _ {M : Type 1} {𝓤 : Ura M} (𝓛 : Logic 𝓤) (mem : Memory → SProp
   goes-value : (r : Chain) (u : Val) → LinkIn r.words.now f r.link → ent 𝓤 (⋆ 𝓛 (‵ ((B (κ, tt)).own_val r (u ∷ [])) ∷ (‵ (flft κ q) ⊛ ‵ ftrue) ∷ [])) ((Value 𝓛 mem run).pre (to-value r u))
   goes-value r u w = qed 𝓛 (‵ ((B (κ, tt)).own_val r (u ∷ [])) ∷ (‵ (flft κ q) ⊛ ‵ ftrue) ∷ []) ∵ says ! w $ nothing ! $ owned ! usize (Is usize) (uint_Makes 𝓛 w64) f _ (refl, low) $ fjoin ! $ move ! (1 ∷ 0 ∷ []) $ fjoin ! $ move ! (1 ∷ 0 ∷ []) $ frame ! $ done !
 
-  value-said : (r : Chain) (t : ℕ) → ent 𝓤 (ensured 𝓛 value.ended (value.clauses 𝓛 mem run) (κ, tt) (r, (f, tt)) tt t) (fact 𝓤 (t ≡ valueIn r.words.now f r.link))
-  value-said r t = ex_e 𝓤 _ (λ ws. snd∗ 𝓤 (sem 𝓛 (lasts value.ended (κ, tt) (r, (f, tt)) ws)) (fact 𝓤 (t ≡ valueIn r.words.now f r.link)))
+  value-said : (r : Chain) (t : ℕ) → ent 𝓤 (ensured 𝓛 value.ended (value.clauses 𝓛 mem run) (κ, tt) (r, (f, tt)) tt t) (fact 𝓤 (t ≡ value_in r.words.now f r.link))
+  value-said r t = ex_e 𝓤 _ (λ ws. snd∗ 𝓤 (sem 𝓛 (lasts value.ended (κ, tt) (r, (f, tt)) ws)) (fact 𝓤 (t ≡ value_in r.words.now f r.link)))
 
   module _ (C : Calls 𝓤 H) (Λ : Loops 𝓤 H) (fm : FmC 𝓤 H 𝓛.laws C) (known-new : Triple 𝓤 (C #graph·chain-of) (New 𝓛 mem run)) (known-value : Triple 𝓤 (C #graph·chain-value) (Value 𝓛 mem run)) where
     walk : Is (ShrSlice (named 0) κ u32) s (v ∷ []) → LinkIn s.now f n → ent 𝓤 (on_entry 𝓛 me.signature (κ, tt) (q, tt) (s, (f, (n, tt))) (passed3 s f n)) (WpFn 𝓤 H C Λ code.function (v ∷ vint w64 f ∷ vint w64 n ∷ []) Post)
     walk p within =
         qed 𝓛 (raw (on_entry 𝓛 me.signature (κ, tt) (q, tt) (s, (f, (n, tt))) (passed3 s f n)) ∷ []) ∵ enter ! C Λ code.function (v ∷ vint w64 f ∷ vint w64 n ∷ []) _ $
         alloc1 ! (λ l₀. alloc1 ! (λ l₁. alloc1 ! (λ l₂. alloc1 ! (λ l₃. alloc1 ! (λ l₄. alloc0 ! $ params1 ! $ pass1 ! (init ! 6 refl ((shr_slice_Lawful 𝓛 (named 0) κ u32).typed s (v ∷ []) p).0) $ pass1 ! (init ! 4 refl (tt, record { fits = low })) $ pass1 ! (init ! 2 refl (tt, record { fits = ok })) $ pass0 ! $
-        move ! (10 ∷ []) $ use1 𝓛 (raw ((New 𝓛 mem run).pre (to-new 𝓛 κ q mem run s f n)) ⊛ ‵ Own) (goes-new 𝓛 κ q mem run s f n) $ split ! $
-        calls_at ! fm (New 𝓛 mem run) known-new (to-new 𝓛 κ q mem run s f n) (and_then ! (load ! (from ! (stop !)) (look ! 8 refl)) (and_then ! (load ! (from ! (stop !)) (look ! 4 refl)) (no_more !))) (λ u.
+        move ! (10 ∷ []) $ use1 𝓛 (raw ((New 𝓛 mem run).pre (to_new 𝓛 κ q mem run s f n)) ⊛ ‵ Own) (goes_new 𝓛 κ q mem run s f n) $ split ! $
+        calls_at ! fm (New 𝓛 mem run) known-new (to_new 𝓛 κ q mem run s f n) (and_then ! (load ! (from ! (stop !)) (look ! 8 refl)) (and_then ! (load ! (from ! (stop !)) (look ! 4 refl)) (no_more !))) (λ u.
         use1 𝓛 (later (some (λ (r : Chain). ((‵ (flft κ q) ⊛ ‵ ftrue) ⊛ ‵ ((B (κ, tt)).own_val r (u ∷ []))) ⊛ raw (ensured 𝓛 new.ended (new.clauses 𝓛 mem run) (κ, tt) (s, (n, tt)) tt r)))) (id⊢ 𝓤 _) $ await ! tt $ pick ! (λ r.
-        split ! $ move ! (1 ∷ []) $ use1 𝓛 (raw (fact 𝓤 (IsNew 𝓛 κ q mem run s f n r))) (new-said 𝓛 κ q mem run s f n r) $ heard ! (IsNew 𝓛 κ q mem run s f n r) (λ e. split ! $ move ! (1 ∷ []) $
+        split ! $ move ! (1 ∷ []) $ use1 𝓛 (raw (fact 𝓤 (IsNew 𝓛 κ q mem run s f n r))) (new_said 𝓛 κ q mem run s f n r) $ heard ! (IsNew 𝓛 κ q mem run s f n r) (λ e. split ! $ move ! (1 ∷ []) $
         -- [what the struct owns; the token; what s owns; room for _4; …; _3; …; _2; …; _1; …; room for _0; …]
         peeks ! (B (κ, tt)) (Is (B (κ, tt))) (shows 𝓛 (B (κ, tt))) r (u ∷ []) (λ is.
         land ! (from ! (stop !)) (init ! 3 refl ((LL.lawful (T.the_type αᵉ) (T'.the_laws αᵉ) 𝓛).typed r _ is).0) $
         use2 𝓛 (raw ((Value 𝓛 mem run).pre (to-value r u))) (goes-value r u (same r e.0 e.1 within)) $
         calls_at ! fm (Value 𝓛 mem run) known-value (to-value r u) (and_then ! (load ! (from ! (stop !)) (look ! 2 refl)) (and_then ! (load ! (from ! (stop !)) (look ! 6 refl)) (no_more !))) (λ u'.
         use1 𝓛 (later (some (λ (t : ℕ). ((‵ (flft κ q) ⊛ ‵ ftrue) ⊛ ‵ (usize.own_val t (u' ∷ []))) ⊛ raw (ensured 𝓛 value.ended (value.clauses 𝓛 mem run) (κ, tt) (r, (f, tt)) tt t)))) (id⊢ 𝓤 _) $ await ! tt $ pick ! (λ t.
-        split ! $ move ! (1 ∷ []) $ use1 𝓛 (raw (fact 𝓤 (t ≡ valueIn r.words.now f r.link))) (value-said r t) $ heard ! (t ≡ valueIn r.words.now f r.link) (λ e'. split ! $ move ! (1 ∷ []) $
+        split ! $ move ! (1 ∷ []) $ use1 𝓛 (raw (fact 𝓤 (t ≡ value_in r.words.now f r.link))) (value-said r t) $ heard ! (t ≡ value_in r.words.now f r.link) (λ e'. split ! $ move ! (1 ∷ []) $
         -- [the result; the token; what s owns; _4; …; _3; …; _2; …; _1; …; room for _0; …]
         peeks ! usize (Is usize) (shows 𝓛 usize) t (u' ∷ []) (λ is'.
         land ! (from ! (stop !)) (init ! 11 refl ((uint_Lawful 𝓛 w64).typed t _ is').0) $
         returns ! (look ! 11 refl) $ forget ! 3 refl $ forget ! 5 refl $ forget ! 7 refl $ forget ! 9 refl $ forget ! 11 refl $ move ! (11 ∷ 12 ∷ []) $ free1 ! $ move ! (9 ∷ 10 ∷ []) $ free1 ! $ move ! (7 ∷ 8 ∷ []) $ free1 ! $ move ! (5 ∷ 6 ∷ []) $ free1 ! $ move ! (3 ∷ 4 ∷ []) $ free1 ! $ free0 ! $
-        by ! (exits t u' (e' ∙ (ap (λ (x : Bor (List ℕ)). valueIn x.now f r.link) e.0 ∙ ap (valueIn s.now f) e.1))))))))))))))))
+        by ! (exits t u' (e' ∙ (ap (λ (x : Bor (List ℕ)). value_in x.now f r.link) e.0 ∙ ap (value_in s.now f) e.1))))))))))))))))
 
 module _ {M : Type 1} {𝓤 : Ura M} (𝓛 : Logic 𝓤) (mem : Memory → SProp 𝓤) (run : Routine → Fun 𝓤) where
   open 𝓛 use {H}

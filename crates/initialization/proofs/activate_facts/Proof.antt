@@ -1,14 +1,14 @@
 use mathlib.Core.Path.{◌≡◌, refl, ap}
 use Prim.Native.Nat.{◌≤◌}
 use native.Mathlib.Omega.{arith}
-use Rattle.theory.specs.Words.{theoryOf}
+use Rattle.theory.specs.Words.{theory_of}
 use Rattle.theory.specs.Rows.{flat_map}
 use Rattle.theory.specs.Prefix.{upto}
 use Rattle.theory.specs.Drive.{Drives}
-use Rattle.theory.proofs.DriveLaws.{drives-none, turn-next, turn_more, turn-done}
-use Rattle.initialization.specs.Regions.{factRows}
+use Rattle.theory.proofs.DriveLaws.{drives_none, turn_next, turn_more, turn_done}
+use Rattle.initialization.specs.Regions.{fact_rows}
 use Rattle.initialization.specs.Start.{At}
-use Rattle.initialization.proofs.RegionLaws.{listed-turn, listed-mem}
+use Rattle.initialization.proofs.RegionLaws.{listed_turn, listed_mem}
 use Rattle.initialization.proofs.StartLaws.{behind}
 use borrow.Author.Rules.{rules}
 use Rattle.initialization.proofs.activate_facts.Statement.{statement}
@@ -19,7 +19,7 @@ use Rattle.graph.proofs.at.Reads as at_reads
 use Rattle.initialization.proofs.activate_heads.Reads as activate-heads-reads
 
 abbrev invariant-loop : tie.invariant-loop
-invariant-loop graph work₀ b facts t₀ i₀ work t i = (i ≤ facts) × Drives (At b) b.dependencies work₀ 0 (flat_map (theoryOf graph).heads (factRows b work₀ facts)) work t (flat_map (theoryOf graph).heads (factRows b work₀ i))
+invariant-loop graph work₀ b facts t₀ i₀ work t i = (i ≤ facts) × Drives (At b) b.dependencies work₀ 0 (flat_map (theory_of graph).heads (fact_rows b work₀ facts)) work t (flat_map (theory_of graph).heads (fact_rows b work₀ i))
 
 abbrev decreases-loop : tie.decreases-loop
 decreases-loop graph work₀ b facts t₀ i₀ work t i = i
@@ -27,7 +27,7 @@ decreases-loop graph work₀ b facts t₀ i₀ work t i = i
 loop-holds : tie.Need-loop-init invariant-loop decreases-loop
 loop-holds c =
     let c-args = c.before.before.args in
-    (omega arith, drives-none (At c-args.b))
+    (omega arith, drives_none (At c-args.b))
 
 sub-i : tie.Need-overflow-sub-i invariant-loop decreases-loop
 sub-i c = search rules
@@ -58,8 +58,8 @@ activate-heads-requires c κs =
     let l = c-pre.0.1.laid in
     let e = behind c-pre.1 c-loop.invariant.1 in
     let q = c-loop.invariant.0 in (
-      (c-pre.0.0, rw c-loop.invariant.1.size c-pre.0.1, ((c-pre.0.3.are c-at.result).0 (listed-mem c-args.b.fact_rows c-args.b.body_nodes c-args.work.now c-loop.work e (omega arith) c-loop-test.true c-at.ensures.0 c-args.facts (omega arith))).0),
-      turn-next (At c-args.b) (flat_map (theoryOf c-args.graph.now).heads) (theoryOf c-args.graph.now).heads (λ x xs. refl) c-loop.invariant.1 (listed-turn c-args.b.fact_rows c-args.b.body_nodes c-args.work.now c-loop.work e (omega arith) c-loop-test.true c-at.ensures.0) c-pre.1,
+      (c-pre.0.0, rw c-loop.invariant.1.size c-pre.0.1, ((c-pre.0.3.are c-at.result).0 (listed_mem c-args.b.fact_rows c-args.b.body_nodes c-args.work.now c-loop.work e (omega arith) c-loop-test.true c-at.ensures.0 c-args.facts (omega arith))).0),
+      turn_next (At c-args.b) (flat_map (theory_of c-args.graph.now).heads) (theory_of c-args.graph.now).heads (λ x xs. refl) c-loop.invariant.1 (listed_turn c-args.b.fact_rows c-args.b.body_nodes c-args.work.now c-loop.work e (omega arith) c-loop-test.true c-at.ensures.0) c-pre.1,
     )
 
 loop-less : tie.Need-loop-smaller invariant-loop decreases-loop
@@ -79,7 +79,7 @@ loop-again c =
     let l = c-pre.0.1.laid in
     let e = behind c-pre.1 c-loop.invariant.1 in (
       omega arith,
-      turn_more (At c-args.b) (flat_map (theoryOf c-args.graph.now).heads) (theoryOf c-args.graph.now).heads (λ x xs. refl) c-loop.invariant.1 (listed-turn c-args.b.fact_rows c-args.b.body_nodes c-args.work.now c-loop.work e (omega arith) c-loop-test.true c-at.ensures.0) c-activate-heads.ensures,
+      turn_more (At c-args.b) (flat_map (theory_of c-args.graph.now).heads) (theory_of c-args.graph.now).heads (λ x xs. refl) c-loop.invariant.1 (listed_turn c-args.b.fact_rows c-args.b.body_nodes c-args.work.now c-loop.work e (omega arith) c-loop-test.true c-at.ensures.0) c-activate-heads.ensures,
     )
 
 same_length : tie.Need-same-length invariant-loop decreases-loop
@@ -93,7 +93,7 @@ returns c =
     let c-loop = c.before.loop in
     let p1 = c.before.before.before.before in
     let c-args = p1.args in
-    let z : c-loop.i ≡ 0 = omega arith in turn-done (At c-args.b) (flat_map (theoryOf c-args.graph.now).heads) (theoryOf c-args.graph.now).heads (λ x xs. refl) c-loop.invariant.1 (ap (factRows c-args.b c-args.work.now) z) refl
+    let z : c-loop.i ≡ 0 = omega arith in turn_done (At c-args.b) (flat_map (theory_of c-args.graph.now).heads) (theory_of c-args.graph.now).heads (λ x xs. refl) c-loop.invariant.1 (ap (fact_rows c-args.b c-args.work.now) z) refl
 
 pub activate-facts-spec : {M : Type 1} → statement M
 activate-facts-spec =

@@ -1,5 +1,5 @@
 use native.Mathlib.Omega.{arith}
-use Rattle.initialization.proofs.StartLaws.{node-ready, node-fits, inactive-rests, true-pushes, awaiting-pushes, awaiting-waits, awaiting-fits}
+use Rattle.initialization.proofs.StartLaws.{node_ready, node_fits, inactive_rests, true_pushes, awaiting_pushes, awaiting_waits, awaiting_fits}
 use borrow.Author.Rules.{rules}
 use Rattle.initialization.proofs.start_node.Statement.{statement}
 use Rattle.initialization.proofs.start_node.Tie as tie
@@ -22,13 +22,13 @@ add_push : tie.Need-overflow-add-push
 add_push c =
     let p1 = c.before.before.before.before.before.before.before.before.before.before.before.before in
     let c-pre = p1.requires in
-    let r = node-ready c-pre.1.1 in omega arith
+    let r = node_ready c-pre.1.1 in omega arith
 
 push-requires : tie.Need-push-requires
 push-requires c κs =
     let p1 = c.before.before.before.before.before.before.before.before.before.before.before.before in
     let c-pre = p1.requires in
-    let r = node-ready c-pre.1.1 in let k = node-fits c-pre.1.1 in let a = c-pre.0.0 in let m = c-pre.0.1 in omega arith
+    let r = node_ready c-pre.1.1 in let k = node_fits c-pre.1.1 in let a = c-pre.0.0 in let m = c-pre.0.1 in omega arith
 
 same_length : tie.Need-same-length
 same_length c = search rules
@@ -44,19 +44,19 @@ returns c =
     let p3 = p2.before.before.before.before.before.before in
     let c-pre = p3.requires in
     let c-args = p3.args in
-    rw (c-push.ensures.0, c-push.ensures.1) (awaiting-pushes c-pre.0.0 c-pre.0.1 c-args.n c-pre.1.0 c-pre.1.1 c_read.ensures c-initial.given.1 c-if1.true)
+    rw (c-push.ensures.0, c-push.ensures.1) (awaiting_pushes c-pre.0.0 c-pre.0.1 c-args.n c-pre.1.0 c-pre.1.1 c_read.ensures c-initial.given.1 c-if1.true)
 
 add-put : tie.Need-overflow-add-put
 add-put c =
     let p1 = c.before.before.before.before.before.before.before.before.before.before.before.before in
     let c-pre = p1.requires in
-    let r = node-ready c-pre.1.1 in omega arith
+    let r = node_ready c-pre.1.1 in omega arith
 
 add-put-2 : tie.Need-overflow-add-put-2
 add-put-2 c =
     let p1 = c.before.before.before.before.before.before.before.before.before.before.before.before.before in
     let c-pre = p1.requires in
-    let r = node-ready c-pre.1.1 in omega arith
+    let r = node_ready c-pre.1.1 in omega arith
 
 put-requires : tie.Need-put-requires
 put-requires c κs =
@@ -66,7 +66,7 @@ put-requires c κs =
     let p2 = p1.before.before.before.before.before.before.before.before in
     let c-pre = p2.requires in
     let c-args = p2.args in
-    let r = node-ready c-pre.1.1 in let k = awaiting-fits c-pre.0.0 c-pre.0.1 c-args.n c-pre.1.0 c-pre.1.1 c_read.ensures c-initial.given.1 in omega arith
+    let r = node_ready c-pre.1.1 in let k = awaiting_fits c-pre.0.0 c-pre.0.1 c-args.n c-pre.1.0 c-pre.1.1 c_read.ensures c-initial.given.1 in omega arith
 
 enum-told-2 : tie.Need-enum-told-2
 enum-told-2 c = search rules
@@ -75,13 +75,13 @@ add-push-2 : tie.Need-overflow-add-push-2
 add-push-2 c =
     let p1 = c.before.before.before.before.before.before.before.before.before.before in
     let c-pre = p1.requires in
-    let r = node-ready c-pre.1.1 in omega arith
+    let r = node_ready c-pre.1.1 in omega arith
 
 push-requires-2 : tie.Need-push-requires-2
 push-requires-2 c κs =
     let p1 = c.before.before.before.before.before.before.before.before.before.before in
     let c-pre = p1.requires in
-    let r = node-ready c-pre.1.1 in let k = node-fits c-pre.1.1 in let a = c-pre.0.0 in let m = c-pre.0.1 in omega arith
+    let r = node_ready c-pre.1.1 in let k = node_fits c-pre.1.1 in let a = c-pre.0.0 in let m = c-pre.0.1 in omega arith
 
 same-length-2 : tie.Need-same-length-2
 same-length-2 c = search rules
@@ -93,7 +93,7 @@ returns-2 c =
     let p1 = c.before.before.before.before.before.before.before.before in
     let c-pre = p1.requires in
     let c-args = p1.args in
-    inactive-rests c-pre.0.0 c-pre.0.1 c-args.n c-pre.1.0 c-pre.1.1 c_read.ensures c-enum-told.given.1
+    inactive_rests c-pre.0.0 c-pre.0.1 c-args.n c-pre.1.0 c-pre.1.1 c_read.ensures c-enum-told.given.1
 
 same-length-3 : tie.Need-same-length-3
 same-length-3 c = search rules
@@ -109,7 +109,7 @@ returns-3 c =
     let p3 = p2.before.before.before.before.before.before in
     let c-pre = p3.requires in
     let c-args = p3.args in
-    rw c-put.ensures (awaiting-waits c-pre.0.0 c-pre.0.1 c-args.n c-pre.1.0 c-pre.1.1 c_read.ensures c-initial.given.1 c-if1.false)
+    rw c-put.ensures (awaiting_waits c-pre.0.0 c-pre.0.1 c-args.n c-pre.1.0 c-pre.1.1 c_read.ensures c-initial.given.1 c-if1.false)
 
 same-length-4 : tie.Need-same-length-4
 same-length-4 c = search rules
@@ -123,7 +123,7 @@ returns-4 c =
     let p2 = p1.before.before.before.before.before.before.before.before in
     let c-pre = p2.requires in
     let c-args = p2.args in
-    rw (c-push2.ensures.0, c-push2.ensures.1) (true-pushes c-pre.0.0 c-pre.0.1 c-args.n c-pre.1.0 c-pre.1.1 c_read.ensures c-enum-told2.given.1)
+    rw (c-push2.ensures.0, c-push2.ensures.1) (true_pushes c-pre.0.0 c-pre.0.1 c-args.n c-pre.1.0 c-pre.1.1 c_read.ensures c-enum-told2.given.1)
 
 pub start-node-spec : {M : Type 1} → statement M
 start-node-spec =

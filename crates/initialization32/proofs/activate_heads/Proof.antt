@@ -3,12 +3,12 @@ use mathlib.Core.Path.{◌≡◌, refl, ap, ◌∙◌}
 use mathlib.Core.List.{[], ◌∷◌}
 use native.Mathlib.Omega.{arith}
 use lib.ListN.{length}
-use Rattle.theory.specs.Words.{next_of, chain, theoryOf}
+use Rattle.theory.specs.Words.{next_of, chain, theory_of}
 use Rattle.theory.specs.Links.{MeetsOnce}
 use Rattle.theory.specs.Drive.{Drives}
-use Rattle.theory.proofs.ChainLaws.{once-next, chain-end, chain-falls}
-use Rattle.theory.proofs.DriveLaws.{drives-none, follows_next, drives-step, chain-turn}
-use Rattle.graph.proofs.DecodeLaws.{the-producers, the-heads, value-of, next-of, link-in}
+use Rattle.theory.proofs.ChainLaws.{once_next, chain_end, chain_falls}
+use Rattle.theory.proofs.DriveLaws.{drives_none, follows_next, drives_step, chain_turn}
+use Rattle.graph.proofs.DecodeLaws.{the_producers, the_heads, value_of_lem, next_of_lem, link_in}
 use Rattle.initialization.specs.Start.{At}
 use Rattle.initialization32.proofs.activate_heads.Statement.{statement}
 use Rattle.initialization32.proofs.activate_heads.Tie as tie
@@ -20,7 +20,7 @@ use Rattle.graph32.proofs.value.Reads as value-reads
 use Rattle.initialization32.proofs.activate_atom.Reads as activate-atom-reads
 
 abbrev invariant-loop : tie.invariant-loop
-invariant-loop graph work₀ b p tail from t₀ l₀ work t l = MeetsOnce graph l × Drives (At b) b.dependencies work₀ tail ((theoryOf graph).heads p) work t (chain graph l)
+invariant-loop graph work₀ b p tail from t₀ l₀ work t l = MeetsOnce graph l × Drives (At b) b.dependencies work₀ tail ((theory_of graph).heads p) work t (chain graph l)
 
 abbrev decreases-loop : tie.decreases-loop
 decreases-loop graph work₀ b p tail from t₀ l₀ work t l = length (chain graph l)
@@ -34,7 +34,7 @@ first-head-requires : tie.Need-first-head-requires invariant-loop decreases-loop
 first-head-requires c κs =
     let c-pre = c.before.before.before.requires in
     let c-args = c.before.before.before.args in
-    record { size = c-pre.0.0.size; below = rw (the-producers c-args.graph.now) at c-pre.0.2 }
+    record { size = c-pre.0.0.size; below = rw (the_producers c-args.graph.now) at c-pre.0.2 }
 
 loop-holds : tie.Need-loop-init invariant-loop decreases-loop
 loop-holds c =
@@ -42,7 +42,7 @@ loop-holds c =
     let p1 = c.before.before.before.before in
     let c-pre = p1.requires in
     let c-args = p1.args in
-    (rw c-first-head.ensures (c-pre.0.0.head-chain c-args.p (rw (the-producers c-args.graph.now) at c-pre.0.2)), rw (c-first-head.ensures, ← the-heads c-args.graph.now c-args.p) (drives-none (At c-args.b)))
+    (rw c-first-head.ensures (c-pre.0.0.head_chain c-args.p (rw (the_producers c-args.graph.now) at c-pre.0.2)), rw (c-first-head.ensures, ← the_heads c-args.graph.now c-args.p) (drives_none (At c-args.b)))
 
 value-requires : tie.Need-value-requires invariant-loop decreases-loop
 value-requires c κs =
@@ -50,7 +50,7 @@ value-requires c κs =
     let c-links-from = c.before.before.before.links-from in
     let p1 = c.before.before.before.before.before.before in
     let c-pre = p1.requires in
-    link-in c-links-from.ensures c-pre.0.0 c-loop.invariant.0 (λ z. omega arith)
+    link_in c-links-from.ensures c-pre.0.0 c-loop.invariant.0 (λ z. omega arith)
 
 next-requires : tie.Need-next-requires invariant-loop decreases-loop
 next-requires c κs =
@@ -58,7 +58,7 @@ next-requires c κs =
     let p1 = c.before.before.before.before in
     let c-links-from = p1.links-from in
     let c-pre = p1.before.before.before.requires in
-    link-in c-links-from.ensures c-pre.0.0 c-loop.invariant.0 (λ z. omega arith)
+    link_in c-links-from.ensures c-pre.0.0 c-loop.invariant.0 (λ z. omega arith)
 
 activate-atom-requires : tie.Need-activate-atom-requires invariant-loop decreases-loop
 activate-atom-requires c κs =
@@ -69,7 +69,7 @@ activate-atom-requires c κs =
     let p2 = p1.before.before.before.before.before in
     let c-pre = p2.requires in
     let c-args = p2.args in
-    (let a = c-pre.0.0 in let m = c-pre.0.1 in omega arith, follows_next (At c-args.b) (c-value.result ∷ []) (chain c-args.graph.now (next_of c-args.graph.now c-loop.l)) (chain-turn c-args.graph.now c-loop.invariant.0 (λ z. omega arith) (value-of c-links-from.ensures c-loop.l c-value.ensures (omega arith)) refl) c-loop.invariant.1 c-pre.1)
+    (let a = c-pre.0.0 in let m = c-pre.0.1 in omega arith, follows_next (At c-args.b) (c-value.result ∷ []) (chain c-args.graph.now (next_of c-args.graph.now c-loop.l)) (chain_turn c-args.graph.now c-loop.invariant.0 (λ z. omega arith) (value_of_lem c-links-from.ensures c-loop.l c-value.ensures (omega arith)) refl) c-loop.invariant.1 c-pre.1)
 
 loop-less : tie.Need-loop-smaller invariant-loop decreases-loop
 loop-less c =
@@ -79,7 +79,7 @@ loop-less c =
     let p2 = p1.before.before.before.before.before in
     let c-links-from = p2.links-from in
     let c-args = p2.before.before.before.args in
-    rw (next-of c-links-from.ensures c-loop.l c-next.ensures (omega arith)) (chain-falls c-args.graph.now c-loop.invariant.0 (λ z. omega arith))
+    rw (next_of_lem c-links-from.ensures c-loop.l c-next.ensures (omega arith)) (chain_falls c-args.graph.now c-loop.invariant.0 (λ z. omega arith))
 
 loop-again : tie.Need-loop-preserved invariant-loop decreases-loop
 loop-again c =
@@ -91,7 +91,7 @@ loop-again c =
     let p2 = p1.before.before.before.before.before in
     let c-links-from = p2.links-from in
     let c-args = p2.before.before.before.args in
-    (rw (next-of c-links-from.ensures c-loop.l c-next.ensures (omega arith)) (once-next c-args.graph.now c-loop.invariant.0 (λ z. omega arith)), drives-step (At c-args.b) (c-value.result ∷ []) (chain c-args.graph.now c-next.result) (chain-turn c-args.graph.now c-loop.invariant.0 (λ z. omega arith) (value-of c-links-from.ensures c-loop.l c-value.ensures (omega arith)) (next-of c-links-from.ensures c-loop.l c-next.ensures (omega arith))) c-loop.invariant.1 c-activate-atom.ensures)
+    (rw (next_of_lem c-links-from.ensures c-loop.l c-next.ensures (omega arith)) (once_next c-args.graph.now c-loop.invariant.0 (λ z. omega arith)), drives_step (At c-args.b) (c-value.result ∷ []) (chain c-args.graph.now c-next.result) (chain_turn c-args.graph.now c-loop.invariant.0 (λ z. omega arith) (value_of_lem c-links-from.ensures c-loop.l c-value.ensures (omega arith)) (next_of_lem c-links-from.ensures c-loop.l c-next.ensures (omega arith))) c-loop.invariant.1 c-activate-atom.ensures)
 
 same_length : tie.Need-same-length invariant-loop decreases-loop
 same_length c =
@@ -103,7 +103,7 @@ returns c =
     let c-loop = c.before.loop in
     let p1 = c.before.before.before.before.before.before in
     let c-args = p1.args in
-    let e : c-loop.l ≡ 0 = omega arith in rw (ap (chain c-args.graph.now) e ∙ chain-end c-args.graph.now) at c-loop.invariant.1
+    let e : c-loop.l ≡ 0 = omega arith in rw (ap (chain c-args.graph.now) e ∙ chain_end c-args.graph.now) at c-loop.invariant.1
 
 pub activate-heads-spec : {M : Type 1} → statement M
 activate-heads-spec =

@@ -2,8 +2,8 @@
 use native.Mathlib.Omega.{arith}
 use mathlib.Core.Path.{sym, ◌∙◌}
 use Rattle.theory.specs.Words.{bit_at}
-use Rattle.theory.proofs.PassStartLaws.{first-none}
-use Rattle.initialization.proofs.FillLaws.{flag_off, flag-on, first_past, first-cut, first-waits}
+use Rattle.theory.proofs.PassStartLaws.{first_none}
+use Rattle.initialization.proofs.FillLaws.{flag_off, flag_on, first_past, first_cut, first_waits}
 use borrow.Author.Rules.{rules}
 use Rattle.initialization32.proofs.first_count.Statement.{statement}
 use Rattle.initialization32.proofs.first_count.Tie as tie
@@ -32,7 +32,7 @@ returns-2 c =
     let c-if1 = c.before.before.before.if1 in
     let p1 = c.before.before.before.before.before.before.before in
     let c-args = p1.args in
-    (λ s f. sym (first-none s (bit_at c-args.atom-never.now) c-args.v (flag_off f c-if1.false (sym c-at.ensures.0 ∙ c-if2.true))), omega arith)
+    (λ s f. sym (first_none s (bit_at c-args.atom-never.now) c-args.v (flag_off f c-if1.false (sym c-at.ensures.0 ∙ c-if2.true))), omega arith)
 
 bit-requires : tie.Need-bit-requires
 bit-requires c κs = search rules
@@ -55,7 +55,7 @@ returns-4 c =
     let c-if1 = p1.if1 in
     let p2 = p1.before.before.before.before in
     let c-args = p2.args in
-    (λ s f. first-waits s (bit_at c-args.atom-never.now) (flag-on f c-if1.false (λ z. c-if2.false (c-at.ensures.0 ∙ z))) (sym c-bit.ensures ∙ c-if3.false), omega arith)
+    (λ s f. first-waits s (bit_at c-args.atom-never.now) (flag_on f c-if1.false (λ z. c-if2.false (c-at.ensures.0 ∙ z))) (sym c-bit.ensures ∙ c-if3.false), omega arith)
 
 pub first-count-spec : {M : Type 1} → statement M
 first-count-spec =

@@ -2,10 +2,10 @@
 use mathlib.Core.Path.{refl, sym, ◌∙◌}
 use native.Mathlib.Omega.{arith}
 use lib.ListN.{length}
-use Rattle.theory.specs.Words.{bit_at, theoryOf}
+use Rattle.theory.specs.Words.{bit_at, theory_of}
 use Rattle.theory.specs.Founded.{cyclic}
-use Rattle.initialization.specs.Start.{initialOf}
-use Rattle.initialization.proofs.InitialLaws.{initial-cut, initial-uncut, cone-node, kind-in, operand_in}
+use Rattle.initialization.specs.Start.{initial_of}
+use Rattle.initialization.proofs.InitialLaws.{initial_cut, initial_uncut, cone_node, kind_in, operand_in}
 use borrow.Author.Rules.{rules}
 use Rattle.initialization32.proofs.read.Statement.{statement}
 use Rattle.initialization32.proofs.read.Tie as tie
@@ -31,14 +31,14 @@ returns c =
     let c-bit = c.before.bit in
     let p1 = c.before.before.before.before.before.before in
     let c-args = p1.args in
-    initial-cut c-args.graph.now (bit_at c-args.never.now) (bit_at c-args.atom-never.now) c-args.n (sym c-bit.ensures ∙ c-if1.true)
+    initial_cut c-args.graph.now (bit_at c-args.never.now) (bit_at c-args.atom-never.now) c-args.n (sym c-bit.ensures ∙ c-if1.true)
 
 kind-requires : tie.Need-kind-requires
 kind-requires c κs =
     let p1 = c.before.before.before.before.before.before in
     let c-pre = p1.requires in
     let c-args = p1.args in
-    cone-node c-pre.0.0 c-args.n c-pre.1
+    cone_node c-pre.0.0 c-args.n c-pre.1
 
 starts-true-requires : tie.Need-starts-true-requires
 starts-true-requires c κs =
@@ -46,10 +46,10 @@ starts-true-requires c κs =
     let p1 = c.before.before.before.before.before.before.before in
     let c-pre = p1.requires in
     let c-args = p1.args in
-    kind-in c-pre.0.0 c-args.n c-pre.1 c-kind.ensures
+    kind_in c-pre.0.0 c-args.n c-pre.1 c-kind.ensures
 
 returns-2 : tie.Need-returns-2
-unfolding initialOf theoryOf
+unfolding initial_of theory_of
 returns-2 c =
     let c-if2 = c.if2 in
     let c-starts-true = c.before.starts-true in
@@ -60,7 +60,7 @@ returns-2 c =
     let p2 = p1.before.before.before.before.before in
     let c-pre = p2.requires in
     let c-args = p2.args in
-    initial-uncut c-pre.0.0 c-args.n c-pre.1 (bit_at c-args.never.now) (bit_at c-args.atom-never.now) (sym c-bit.ensures ∙ c-if1.false) c-kind.ensures
+    initial_uncut c-pre.0.0 c-args.n c-pre.1 (bit_at c-args.never.now) (bit_at c-args.atom-never.now) (sym c-bit.ensures ∙ c-if1.false) c-kind.ensures
     (sym c-starts-true.ensures ∙ c-if2.true) refl refl refl
 
 takes-operand-requires : tie.Need-takes-operand-requires
@@ -69,14 +69,14 @@ takes-operand-requires c κs =
     let p1 = c.before.before.before.before.before.before.before.before.before in
     let c-pre = p1.requires in
     let c-args = p1.args in
-    kind-in c-pre.0.0 c-args.n c-pre.1 c-kind.ensures
+    kind_in c-pre.0.0 c-args.n c-pre.1 c-kind.ensures
 
 operand-requires : tie.Need-operand-requires
 operand-requires c κs =
     let p1 = c.before.before.before.before.before.before.before.before.before.before.before in
     let c-pre = p1.requires in
     let c-args = p1.args in
-    cone-node c-pre.0.0 c-args.n c-pre.1
+    cone_node c-pre.0.0 c-args.n c-pre.1
 
 read-atom-requires : tie.Need-read-atom-requires
 read-atom-requires c κs =
@@ -91,7 +91,7 @@ read-atom-requires c κs =
     let m = c-pre.0.1 in let h = operand_in c-pre.0.0 c-args.n c-pre.1 c-kind.ensures (sym c-takes-operand.ensures ∙ c-if3.true) c-operand.ensures in (m.laid, omega arith, omega arith)
 
 returns-3 : tie.Need-returns-3
-unfolding initialOf theoryOf
+unfolding initial_of theory_of
 returns-3 c =
     let c-read-atom = c.read-atom in
     let c-operand = c.before.operand in
@@ -107,8 +107,8 @@ returns-3 c =
     let p3 = p2.before.before.before.before.before in
     let c-args = p3.args in
     let c-pre = p3.requires in
-    rw c-operand.ensures at (c-read-atom.ensures (cyclic (theoryOf c-args.graph.now)) (length ((theoryOf c-args.graph.now).leaves c-args.n)) c-pre.0.2)
-    ∙ initial-uncut c-pre.0.0 c-args.n c-pre.1 (bit_at c-args.never.now) (bit_at c-args.atom-never.now) (sym c-bit.ensures ∙ c-if1.false) c-kind.ensures
+    rw c-operand.ensures at (c-read-atom.ensures (cyclic (theory_of c-args.graph.now)) (length ((theory_of c-args.graph.now).leaves c-args.n)) c-pre.0.2)
+    ∙ initial_uncut c-pre.0.0 c-args.n c-pre.1 (bit_at c-args.never.now) (bit_at c-args.atom-never.now) (sym c-bit.ensures ∙ c-if1.false) c-kind.ensures
     (sym c-starts-true.ensures ∙ c-if2.false) (sym c-takes-operand.ensures ∙ c-if3.true) refl refl
 
 waits-for-one-requires : tie.Need-waits-for-one-requires
@@ -118,10 +118,10 @@ waits-for-one-requires c κs =
     let p2 = p1.before.before.before.before.before.before.before in
     let c-pre = p2.requires in
     let c-args = p2.args in
-    kind-in c-pre.0.0 c-args.n c-pre.1 c-kind.ensures
+    kind_in c-pre.0.0 c-args.n c-pre.1 c-kind.ensures
 
 returns-4 : tie.Need-returns-4
-unfolding initialOf theoryOf
+unfolding initial_of theory_of
 returns-4 c =
     let c-if4 = c.if4 in
     let c-waits-for-one = c.before.waits-for-one in
@@ -137,7 +137,7 @@ returns-4 c =
     let p3 = p2.before.before.before.before.before in
     let c-pre = p3.requires in
     let c-args = p3.args in
-    initial-uncut c-pre.0.0 c-args.n c-pre.1 (bit_at c-args.never.now) (bit_at c-args.atom-never.now) (sym c-bit.ensures ∙ c-if1.false) c-kind.ensures
+    initial_uncut c-pre.0.0 c-args.n c-pre.1 (bit_at c-args.never.now) (bit_at c-args.atom-never.now) (sym c-bit.ensures ∙ c-if1.false) c-kind.ensures
     (sym c-starts-true.ensures ∙ c-if2.false) (sym c-takes-operand.ensures ∙ c-if3.false) (sym c-waits-for-one.ensures ∙ c-if4.true) refl
 
 waits-for-all-requires : tie.Need-waits-for-all-requires
@@ -147,26 +147,26 @@ waits-for-all-requires c κs =
     let p2 = p1.before.before.before.before.before.before.before in
     let c-pre = p2.requires in
     let c-args = p2.args in
-    kind-in c-pre.0.0 c-args.n c-pre.1 c-kind.ensures
+    kind_in c-pre.0.0 c-args.n c-pre.1 c-kind.ensures
 
 first-leaf-requires : tie.Need-first-leaf-requires
 first-leaf-requires c κs =
     let p1 = c.before.before.before.before.before.before.before.before.before.before.before.before.before.before.before in
     let c-pre = p1.requires in
     let c-args = p1.args in
-    cone-node c-pre.0.0 c-args.n c-pre.1
+    cone_node c-pre.0.0 c-args.n c-pre.1
 
 entries-requires : tie.Need-entries-requires
-unfolding theoryOf
+unfolding theory_of
 entries-requires c κs =
     let c-first-leaf = c.first_leaf in
     let p1 = c.before.before.before.before.before.before.before.before.before.before.before.before.before.before.before.before in
     let c-pre = p1.requires in
     let c-args = p1.args in
-    (c-pre.0.0, rw c-first-leaf.ensures (c-pre.0.0.leaf-chain c-args.n (cone-node c-pre.0.0 c-args.n c-pre.1).below))
+    (c-pre.0.0, rw c-first-leaf.ensures (c-pre.0.0.leaf_chain c-args.n (cone_node c-pre.0.0 c-args.n c-pre.1).below))
 
 returns-5 : tie.Need-returns-5
-unfolding initialOf theoryOf
+unfolding initial_of theory_of
 returns-5 c =
     let c-entries = c.entries in
     let c-first-leaf = c.before.first_leaf in
@@ -188,11 +188,11 @@ returns-5 c =
     let c-pre = p4.requires in
     let c-args = p4.args in
     rw (c-entries.ensures, c-first-leaf.ensures)
-    (initial-uncut c-pre.0.0 c-args.n c-pre.1 (bit_at c-args.never.now) (bit_at c-args.atom-never.now) (sym c-bit.ensures ∙ c-if1.false) c-kind.ensures
+    (initial_uncut c-pre.0.0 c-args.n c-pre.1 (bit_at c-args.never.now) (bit_at c-args.atom-never.now) (sym c-bit.ensures ∙ c-if1.false) c-kind.ensures
     (sym c-starts-true.ensures ∙ c-if2.false) (sym c-takes-operand.ensures ∙ c-if3.false) (sym c-waits-for-one.ensures ∙ c-if4.false) (sym c-waits-for-all.ensures ∙ c-if5.true))
 
 returns-6 : tie.Need-returns-6
-unfolding initialOf theoryOf
+unfolding initial_of theory_of
 returns-6 c =
     let c-if5 = c.if5 in
     let c-waits-for-all = c.before.waits-for-all in
@@ -210,7 +210,7 @@ returns-6 c =
     let p3 = p2.before.before.before.before.before.before.before in
     let c-pre = p3.requires in
     let c-args = p3.args in
-    initial-uncut c-pre.0.0 c-args.n c-pre.1 (bit_at c-args.never.now) (bit_at c-args.atom-never.now) (sym c-bit.ensures ∙ c-if1.false) c-kind.ensures
+    initial_uncut c-pre.0.0 c-args.n c-pre.1 (bit_at c-args.never.now) (bit_at c-args.atom-never.now) (sym c-bit.ensures ∙ c-if1.false) c-kind.ensures
     (sym c-starts-true.ensures ∙ c-if2.false) (sym c-takes-operand.ensures ∙ c-if3.false) (sym c-waits-for-one.ensures ∙ c-if4.false) (sym c-waits-for-all.ensures ∙ c-if5.false)
 
 pub read_spec : {M : Type 1} → statement M

@@ -1,6 +1,6 @@
 -- Written by tools/widen from crates/initialization/proofs/start/Proof.antt: edit that one.
 use Rattle.theory.specs.Words.{bit_at}
-use Rattle.initialization.proofs.StartLaws.{based-filled, prepared-filled, facts-follow, based-stated, prepared-stated, nodes-follow, begun}
+use Rattle.initialization.proofs.StartLaws.{based_filled, prepared_filled, facts_follow, based_stated, prepared_stated, nodes_follow, begun}
 use borrow.Author.Rules.{rules}
 use Rattle.initialization32.proofs.start.Statement.{statement}
 use Rattle.initialization32.proofs.start.Tie as tie
@@ -19,8 +19,8 @@ activate-facts-requires c κs =
     let p1 = c.before.before.before.before.before.before.before.before.before in
     let c-args = p1.args in
     let c-pre = p1.requires in
-    let N = bit_at c-args.never.now in let M = bit_at c-args.atom-never.now in let q = prepared-filled c-pre.0 N M c-pre.1 c-pre.2 c-first-counts.ensures in
-    ((c-pre.0, based-filled c-pre.0 N M c-pre.1 c-pre.2 c-first-counts.ensures, q.facts-few, q.stated), facts-follow c-pre.0 N M c-pre.1 c-pre.2 c-first-counts.ensures)
+    let N = bit_at c-args.never.now in let M = bit_at c-args.atom-never.now in let q = prepared_filled c-pre.0 N M c-pre.1 c-pre.2 c-first-counts.ensures in
+    ((c-pre.0, based_filled c-pre.0 N M c-pre.1 c-pre.2 c-first-counts.ensures, q.facts_few, q.stated), facts_follow c-pre.0 N M c-pre.1 c-pre.2 c-first-counts.ensures)
 
 start-nodes-requires : tie.Need-start-nodes-requires
 start-nodes-requires c κs =
@@ -30,8 +30,8 @@ start-nodes-requires c κs =
     let p2 = p1.before.before.before.before.before.before in
     let c-args = p2.args in
     let c-pre = p2.requires in
-    let N = bit_at c-args.never.now in let M = bit_at c-args.atom-never.now in let q = prepared-stated c-pre.0 N M c-pre.1 c-pre.2 c-first-counts.ensures c-activate-facts.ensures in
-    ((c-pre.0, based-stated c-pre.0 N M c-pre.1 c-pre.2 c-first-counts.ensures c-activate-facts.ensures, q.flagged), ((q.nodes-few, q.cone), nodes-follow c-pre.0 N M c-pre.1 c-pre.2 c-first-counts.ensures c-activate-facts.ensures))
+    let N = bit_at c-args.never.now in let M = bit_at c-args.atom-never.now in let q = prepared_stated c-pre.0 N M c-pre.1 c-pre.2 c-first-counts.ensures c-activate-facts.ensures in
+    ((c-pre.0, based_stated c-pre.0 N M c-pre.1 c-pre.2 c-first-counts.ensures c-activate-facts.ensures, q.flagged), ((q.nodes_few, q.cone), nodes_follow c-pre.0 N M c-pre.1 c-pre.2 c-first-counts.ensures c-activate-facts.ensures))
 
 same_length : tie.Need-same-length
 same_length c = search rules

@@ -3,13 +3,13 @@ use Prim.Native.Nat.{◌+◌, ◌*◌}
 use native.Mathlib.Omega.{arith}
 use Rattle.theory.specs.Accepted.{size_of}
 use Rattle.input.specs.Bytes.{words}
-use Rattle.input.specs.Input.{graphSize}
+use Rattle.input.specs.Input.{graph_size}
 use borrow.Author.Rules.{rules}
 use Rattle.input.proofs.graph_bytes.Statement.{statement}
 use Rattle.input.proofs.graph_bytes.Tie as tie
 
 returns : tie.Need-returns
-unfolding graphSize
+unfolding graph_size
 returns c = search rules
 
 word-requires : tie.Need-word-requires
@@ -49,7 +49,7 @@ least-requires-2 : tie.Need-least-requires-2
 least-requires-2 c κs = search rules
 
 returns-2 : tie.Need-returns-2
-unfolding graphSize
+unfolding graph_size
 returns-2 c =
     let c-least2 = c.least2 in
     let c-least = c.before.least in

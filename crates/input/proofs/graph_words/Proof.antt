@@ -3,7 +3,7 @@ use Prim.Native.Nat.{◌-◌, ◌/◌, ◌≤◌}
 use native.Mathlib.Omega.{arith}
 use lib.ListN.{length, take}
 use Rattle.input.specs.Bytes.{tabulate, word_at}
-use Rattle.input.proofs.ByteLaws.{fill_start, fill-next, fill-whole}
+use Rattle.input.proofs.ByteLaws.{fill_start, fill_next, fill_whole}
 use borrow.Author.Rules.{rules}
 use Rattle.input.proofs.graph_words.Statement.{statement}
 use Rattle.input.proofs.graph_words.Tie as tie
@@ -48,7 +48,7 @@ loop-again c =
     let c-loop = c.before.before.loop in
     let p1 = c.before.before.before.before.before in
     let c-args = p1.args in
-    (omega arith, search rules, fill-next (word_at 2 c-args.bytes.now) c-loop.words c-loop.i c-number.result c-loop.invariant.2 (omega arith) c-number.ensures.0)
+    (omega arith, search rules, fill_next (word_at 2 c-args.bytes.now) c-loop.words c-loop.i c-number.result c-loop.invariant.2 (omega arith) c-number.ensures.0)
 
 same_length : tie.Need-same-length invariant-loop decreases-loop
 same_length c = search rules
@@ -58,7 +58,7 @@ returns c =
     let c-loop = c.before.loop in
     let p1 = c.before.before.before.before in
     let c-args = p1.args in
-    fill-whole 2 c-args.bytes.now c-loop.words c-loop.i (length c-args.bytes.now / 2) c-loop.invariant.2 (omega arith) refl (omega arith)
+    fill_whole 2 c-args.bytes.now c-loop.words c-loop.i (length c-args.bytes.now / 2) c-loop.invariant.2 (omega arith) refl (omega arith)
 
 pub graph-words-spec : {M : Type 1} → statement M
 graph-words-spec =

@@ -4,7 +4,7 @@ use Prim.Native.Nat.{◌≤◌, ◌-◌}
 use native.Mathlib.Omega.{arith}
 use lib.ListN.{length, drop}
 use Rattle.mask.specs.Mask.{mask_of, flagged}
-use Rattle.mask.proofs.MaskLaws.{mask-more, mask-whole, flags-pack}
+use Rattle.mask.proofs.MaskLaws.{mask_more, mask_whole, flags_pack}
 use borrow.Author.Rules.{rules}
 use Rattle.mask.proofs.pack_flags.Statement.{statement}
 use Rattle.mask.proofs.pack_flags.Tie as tie
@@ -38,7 +38,7 @@ loop-again : tie.Need-loop-preserved invariant-loop decreases-loop
 loop-again c =
     let l = c.before.before.loop in
     let a = c.before.before.before.before.before.args in
-    (omega arith, search rules, rw l.invariant.2 (mask-more l.w (flagged a.flags.now) a.mask.now c.flag_word.result (omega arith) c.flag_word.ensures))
+    (omega arith, search rules, rw l.invariant.2 (mask_more l.w (flagged a.flags.now) a.mask.now c.flag_word.result (omega arith) c.flag_word.ensures))
 
 same_length : tie.Need-same-length invariant-loop decreases-loop
 same_length c = search rules
@@ -48,7 +48,7 @@ returns c =
     let l = c.before.loop in
     let start = c.before.before.before.before in
     let flags = start.args.flags.now in
-    l.invariant.2 ∙ mask-whole l.w (flagged flags) start.args.mask.now (omega arith) ∙ rw start.requires (flags-pack flags)
+    l.invariant.2 ∙ mask_whole l.w (flagged flags) start.args.mask.now (omega arith) ∙ rw start.requires (flags_pack flags)
 
 pub pack-flags-spec : {M : Type 1} → statement M
 pack-flags-spec =

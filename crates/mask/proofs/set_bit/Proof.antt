@@ -1,5 +1,5 @@
 use native.Mathlib.Omega.{arith}
-use Rattle.mask.proofs.MaskLaws.{bit-store}
+use Rattle.mask.proofs.MaskLaws.{bit_store}
 use borrow.Author.Rules.{rules}
 use Rattle.mask.proofs.set_bit.Statement.{statement}
 use Rattle.mask.proofs.set_bit.Tie as tie
@@ -23,7 +23,7 @@ same_length : tie.Need-same-length
 same_length c = search rules
 
 returns : tie.Need-returns
-returns c = let a = c.before.args in bit-store a.mask.now a.i (λ v. omega (arith, c.slice-known.given v)) (omega arith)
+returns c = let a = c.before.args in bit_store a.mask.now a.i (λ v. omega (arith, c.slice-known.given v)) (omega arith)
 
 pub set-bit-spec : {M : Type 1} → statement M
 set-bit-spec =

@@ -4,8 +4,8 @@ use Prim.Native.Nat.{◌≤◌, ◌+◌, ◌-◌, ◌*◌}
 use native.Mathlib.Omega.{arith}
 use lib.ListN.{length}
 use Rattle.mask.specs.Mask.{bits, flagged}
-use Rattle.mask.proofs.BitLaws.{bits-down}
-use Rattle.mask.proofs.MaskLaws.{flags-past}
+use Rattle.mask.proofs.BitLaws.{bits_down}
+use Rattle.mask.proofs.MaskLaws.{flags_past}
 use borrow.Author.Rules.{rules}
 use Rattle.mask32.proofs.flag_word.Statement.{statement}
 use Rattle.mask32.proofs.flag_word.Tie as tie
@@ -27,7 +27,7 @@ least-requires c κs = search rules
 
 loop-holds : tie.Need-loop-init invariant-loop decreases-loop
 loop-holds c =
-    (omega arith, omega arith, omega arith, sym (flags-past c.before.before.args.flags.now _ _ (λ j l u. omega arith)))
+    (omega arith, omega arith, omega arith, sym (flags_past c.before.before.args.flags.now _ _ (λ j l u. omega arith)))
 
 sub-i : tie.Need-overflow-sub-i invariant-loop decreases-loop
 sub-i c = search rules
@@ -48,7 +48,7 @@ loop-again : tie.Need-loop-preserved invariant-loop decreases-loop
 loop-again c =
     let l = c.before.before.loop in
     let s = flagged c.before.before.before.before.before.args.flags.now in
-    (omega arith, omega arith, omega arith, bits-down s 64 _ l.i l.word c.before.loop-test.true (omega arith) l.invariant.3)
+    (omega arith, omega arith, omega arith, bits_down s 64 _ l.i l.word c.before.loop-test.true (omega arith) l.invariant.3)
 
 returns : tie.Need-returns invariant-loop decreases-loop
 returns c =

@@ -1,5 +1,5 @@
 use mathlib.Core.Path.{◌≡◌, sym, ap}
-use Rattle.founded.specs.Answers.{completedOf}
+use Rattle.founded.specs.Answers.{completed_of}
 use Rattle.founded.specs.declared.Completed.{Completed}
 use borrow.Author.Rules.{rules}
 use Rattle.numbers.proofs.completed_place.Statement.{statement}
@@ -38,7 +38,7 @@ returns-4 c = search rules
 returns-5 : tie.Need-returns-5
 returns-5 c =
     let n = c.before.c2.given.0.0 in
-    let place : n ≡ (completedOf c.before.before.before.args.c).place = ap (λ (x : Completed). (completedOf x).place) (sym c.before.c2.given.1) in
+    let place : n ≡ (completed_of c.before.before.before.args.c).place = ap (λ (x : Completed). (completed_of x).place) (sym c.before.c2.given.1) in
     place
 
 pub completed-place-spec : {M : Type 1} → statement M

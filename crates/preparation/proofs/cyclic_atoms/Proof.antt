@@ -1,5 +1,5 @@
 use mathlib.Core.Path.{sym}
-use Rattle.preparation.proofs.StageLaws.{marked-staged}
+use Rattle.preparation.proofs.StageLaws.{marked_staged}
 use borrow.Author.Rules.{rules}
 use Rattle.preparation.proofs.cyclic_atoms.Statement.{statement}
 use Rattle.preparation.proofs.cyclic_atoms.Tie as tie
@@ -16,7 +16,7 @@ returns : tie.Need-returns
 returns c =
     let c-mark = c.before.before.mark in
     let c-pre = c.before.before.before.before.before.before.requires in
-    marked-staged _ _ _ _ c-mark.result (rw (sym c-pre.1.is) at c-mark.ensures)
+    marked_staged _ _ _ _ c-mark.result (rw (sym c-pre.1.is) at c-mark.ensures)
 
 pub cyclic-atoms-spec : {M : Type 1} → statement M
 cyclic-atoms-spec = tie.close (tie.spec mark-requires same_length returns)

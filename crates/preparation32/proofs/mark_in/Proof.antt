@@ -1,8 +1,8 @@
 -- Written by tools/widen from crates/preparation/proofs/mark_in/Proof.antt: edit that one.
 use mathlib.Core.Path.{◌∙◌}
 use native.Mathlib.Omega.{arith}
-use Rattle.graph.proofs.DecodeLaws.{the-nodes}
-use Rattle.preparation.proofs.StageLaws.{cone-refused, cone-found, onward, staged-refused, staged_done}
+use Rattle.graph.proofs.DecodeLaws.{the_nodes}
+use Rattle.preparation.proofs.StageLaws.{cone_refused, cone_found, onward, staged_refused, staged_done}
 use borrow.Author.Rules.{rules}
 use Rattle.preparation32.proofs.mark_in.Statement.{statement}
 use Rattle.preparation32.proofs.mark_in.Tie as tie
@@ -31,7 +31,7 @@ walk-requires c κs =
     let c-build-rows = p2.build-rows in
     let p3 = p2.before.before.before.before in
     let c-pre = p3.requires in
-    (c-pre.0, onward _ _ _ c-pre.1 c-build-rows.ensures c-body-cone.ensures.0 (cone-found _ _ _ c-body-cone.ensures.1 c-enum-told.given.1).0)
+    (c-pre.0, onward _ _ _ c-pre.1 c-build-rows.ensures c-body-cone.ensures.0 (cone_found _ _ _ c-body-cone.ensures.1 c-enum-told.given.1).0)
 
 same_length : tie.Need-same-length
 same_length c = search rules
@@ -43,7 +43,7 @@ returns c =
     let c-body-cone = p1.body-cone in
     let p2 = p1.before.before.before.before in
     let c-build-rows = p2.build-rows in
-    staged-refused _ _ _ _ (c-body-cone.ensures.0.size ∙ c-build-rows.ensures.size) (cone-refused _ _ _ c-body-cone.ensures.1 c-n.given.1).1
+    staged_refused _ _ _ _ (c-body-cone.ensures.0.size ∙ c-build-rows.ensures.size) (cone_refused _ _ _ c-body-cone.ensures.1 c-n.given.1).1
 
 same-length-2 : tie.Need-same-length-2
 same-length-2 c = search rules
@@ -57,7 +57,7 @@ returns-2 c =
     let c-body-cone = p2.body-cone in
     let p3 = p2.before.before.before.before in
     let c-build-rows = p3.build-rows in
-    staged_done _ _ _ _ (c-body-cone.ensures.0.size ∙ c-build-rows.ensures.size) (cone-found _ _ _ c-body-cone.ensures.1 c-enum-told.given.1).1 c-walk.ensures
+    staged_done _ _ _ _ (c-body-cone.ensures.0.size ∙ c-build-rows.ensures.size) (cone_found _ _ _ c-body-cone.ensures.1 c-enum-told.given.1).1 c-walk.ensures
 
 pub mark-in-spec : {M : Type 1} → statement M
 mark-in-spec =

@@ -1,6 +1,6 @@
 -- Written by tools/widen from crates/preparation/proofs/missing/Proof.antt: edit that one.
 use mathlib.Core.Path.{sym}
-use Rattle.preparation.proofs.StageLaws.{ready-pass, listed-refused, listed-done}
+use Rattle.preparation.proofs.StageLaws.{ready_pass, listed_refused, listed_done}
 use borrow.Author.Rules.{rules}
 use Rattle.preparation32.proofs.missing.Statement.{statement}
 use Rattle.preparation32.proofs.missing.Tie as tie
@@ -23,7 +23,7 @@ pass-requires c κs =
     let c-mark = p1.mark in
     let p2 = p1.before.before.before.before.before.before in
     let c-pre = p2.requires in
-    let k = ready-pass _ _ _ _ (rw (sym c-pre.1.is) at c-mark.ensures) c-enum-told.given.1 in (c-pre.0, rw k.1 c-pre.1, k.0)
+    let k = ready_pass _ _ _ _ (rw (sym c-pre.1.is) at c-mark.ensures) c-enum-told.given.1 in (c-pre.0, rw k.1 c-pre.1, k.0)
 
 same_length : tie.Need-same-length
 same_length c = search rules
@@ -34,7 +34,7 @@ returns c =
     let p1 = c.before.before.before.before.before in
     let c-mark = p1.mark in
     let c-pre = p1.before.before.before.before.before.before.requires in
-    listed-refused _ _ _ _ _ _ (rw (sym c-pre.1.is) at c-mark.ensures) c-n.given.1
+    listed_refused _ _ _ _ _ _ (rw (sym c-pre.1.is) at c-mark.ensures) c-n.given.1
 
 same-length-2 : tie.Need-same-length-2
 same-length-2 c = search rules
@@ -47,7 +47,7 @@ returns-2 c =
     let p2 = p1.before.before.before.before in
     let c-mark = p2.mark in
     let c-pre = p2.before.before.before.before.before.before.requires in
-    let k = ready-pass _ _ _ _ (rw (sym c-pre.1.is) at c-mark.ensures) c-enum-told.given.1 in listed-done _ _ _ _ _ _ k.1 k.2 c-pass.ensures
+    let k = ready_pass _ _ _ _ (rw (sym c-pre.1.is) at c-mark.ensures) c-enum-told.given.1 in listed_done _ _ _ _ _ _ k.1 k.2 c-pass.ensures
 
 pub missing-spec : {M : Type 1} → statement M
 missing-spec =

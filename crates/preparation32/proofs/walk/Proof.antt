@@ -1,6 +1,6 @@
 -- Written by tools/widen from crates/preparation/proofs/walk/Proof.antt: edit that one.
 use Rattle.area.proofs.FillLaws.{filled}
-use Rattle.preparation.proofs.WalkLaws.{atoms-part, ready₁, tables₁, marked₁, marking₁}
+use Rattle.preparation.proofs.WalkLaws.{atoms_part, ready₁, tables₁, marked₁, marking₁}
 use borrow.Author.Rules.{rules}
 use Rattle.preparation32.proofs.walk.Statement.{statement}
 use Rattle.preparation32.proofs.walk.Tie as tie
@@ -28,7 +28,7 @@ cyclic-atoms-requires c κs =
     let c-fill = c.before.before.before.fill in
     let p1 = c.before.before.before.before.before.before.before.before in
     let c-pre = p1.requires in
-    let f = filled (atoms-part c-pre.1.based.laid c-pre.1.based.ends) c-fill.ensures in
+    let f = filled (atoms_part c-pre.1.based.laid c-pre.1.based.ends) c-fill.ensures in
     (c-pre.0, ready₁ c-pre.0 c-pre.1 f, tables₁ c-pre.0 c-pre.1 f, marked₁ c-pre.0 c-pre.1 f)
 
 same_length : tie.Need-same-length
@@ -36,12 +36,12 @@ same_length c = search rules
 
 returns : tie.Need-returns
 returns c =
-    let c-cyclic-atoms = c.before.before.cyclic-atoms in
+    let c-cyclic-atoms = c.before.before.cyclic_atoms in
     let p1 = c.before.before.before.before.before.before in
     let c-fill = p1.fill in
     let p2 = p1.before.before.before.before.before in
     let c-pre = p2.requires in
-    marking₁ c-pre.0 c-pre.1 (filled (atoms-part c-pre.1.based.laid c-pre.1.based.ends) c-fill.ensures) c-cyclic-atoms.ensures
+    marking₁ c-pre.0 c-pre.1 (filled (atoms_part c-pre.1.based.laid c-pre.1.based.ends) c-fill.ensures) c-cyclic-atoms.ensures
 
 pub walk-spec : {M : Type 1} → statement M
 walk-spec =

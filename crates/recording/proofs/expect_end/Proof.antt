@@ -1,7 +1,7 @@
 use mathlib.Core.Path.{refl}
 use native.Mathlib.Omega.{arith}
 use Rattle.theory.proofs.SetLaws.{clash}
-use Rattle.recording.proofs.KeepLaws.{keeps-fresh}
+use Rattle.recording.proofs.KeepLaws.{keeps_fresh}
 use borrow.Author.Rules.{rules}
 use Rattle.recording.proofs.expect_end.Statement.{statement}
 use Rattle.recording.proofs.expect_end.Tie as tie
@@ -16,10 +16,10 @@ at-word-requires : tie.Need-at-word-requires
 at-word-requires c κs = search rules
 
 returns-2 : tie.Need-returns-2
-returns-2 c = (keeps-fresh _ _ c.before.before.before.before.before.if1.false, λ h. clash c.at-word.ensures.1 h)
+returns-2 c = (keeps_fresh _ _ c.before.before.before.before.before.if1.false, λ h. clash c.at-word.ensures.1 h)
 
 returns-3 : tie.Need-returns-3
-returns-3 c = (keeps-fresh _ _ c.before.before.before.before.if1.false, λ h. omega arith)
+returns-3 c = (keeps_fresh _ _ c.before.before.before.before.if1.false, λ h. omega arith)
 
 pub expect-end-spec : {M : Type 1} → statement M
 expect-end-spec = tie.close (tie.spec returns fill-requires at-word-requires returns-2 returns-3)

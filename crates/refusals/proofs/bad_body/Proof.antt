@@ -1,18 +1,18 @@
 use mathlib.Core.Path.{refl}
 use native.Mathlib.Omega.{arith}
 use borrow.Author.Tests.{lt-ltb, le-ltb}
-use Rattle.refusals.specs.Refusals.{badBody}
+use Rattle.refusals.specs.Refusals.{bad_body}
 use Rattle.refusals.proofs.bad_body.Statement.{statement}
 use Rattle.refusals.proofs.bad_body.Tie as tie
 
 returns : tie.Need-returns
-unfolding badBody
+unfolding bad_body
 returns c =
     let c-args = c.before.args in
     rw (lt-ltb c-args.nodes c-args.body (omega arith)) refl
 
 returns-2 : tie.Need-returns-2
-unfolding badBody
+unfolding bad_body
 returns-2 c =
     let c-args = c.before.args in
     rw (le-ltb c-args.nodes c-args.body (omega arith)) refl

@@ -2,7 +2,7 @@ use mathlib.Core.Path.{refl}
 use native.Mathlib.Omega.{arith}
 use borrow.Author.Tests.{lt-ltb, le-ltb}
 use Rattle.theory.specs.Accepted.{edition1}
-use Rattle.refusals.specs.Refusals.{badCounts}
+use Rattle.refusals.specs.Refusals.{bad_counts}
 use borrow.Author.Rules.{rules}
 use Rattle.refusals.proofs.bad_counts.Statement.{statement}
 use Rattle.refusals.proofs.bad_counts.Tie as tie
@@ -11,7 +11,7 @@ atoms-requires : tie.Need-atoms-requires
 atoms-requires c κs = search rules
 
 returns : tie.Need-returns
-unfolding badCounts
+unfolding bad_counts
 returns c =
     let c-atoms = c.before.atoms in
     rw (← c-atoms.ensures, lt-ltb edition1.counts c-atoms.result (omega arith)) refl
@@ -20,7 +20,7 @@ nodes-requires : tie.Need-nodes-requires
 nodes-requires c κs = search rules
 
 returns-2 : tie.Need-returns-2
-unfolding badCounts
+unfolding bad_counts
 returns-2 c =
     let c-nodes = c.before.nodes in
     let c-atoms = c.before.before.before.atoms in
@@ -30,7 +30,7 @@ producers-requires : tie.Need-producers-requires
 producers-requires c κs = search rules
 
 returns-3 : tie.Need-returns-3
-unfolding badCounts
+unfolding bad_counts
 returns-3 c =
     let c-producers = c.before.producers in
     let c-nodes = c.before.before.before.nodes in
@@ -42,7 +42,7 @@ links-requires : tie.Need-links-requires
 links-requires c κs = search rules
 
 returns-4 : tie.Need-returns-4
-unfolding badCounts
+unfolding bad_counts
 returns-4 c =
     let c-links = c.links in
     let c-producers = c.before.before.producers in

@@ -2,13 +2,13 @@ use mathlib.Core.Path.{refl}
 use native.Mathlib.Omega.{arith}
 use lib.ListN.{length}
 use borrow.Author.Tests.{lt-ltb, le-ltb}
-use Rattle.refusals.specs.Refusals.{badEdition}
+use Rattle.refusals.specs.Refusals.{bad_edition}
 use borrow.Author.Rules.{rules}
 use Rattle.refusals.proofs.bad_edition.Statement.{statement}
 use Rattle.refusals.proofs.bad_edition.Tie as tie
 
 returns : tie.Need-returns
-unfolding badEdition
+unfolding bad_edition
 returns c =
     let c-args = c.before.before.args in
     rw (lt-ltb (length c-args.graph.now) 5 (omega arith)) refl
@@ -17,7 +17,7 @@ at-requires : tie.Need-at-requires
 at-requires c κs = search rules
 
 returns-2 : tie.Need-returns-2
-unfolding badEdition
+unfolding bad_edition
 returns-2 c =
     let c-at = c.at in
     let c-args = c.before.before.before.args in

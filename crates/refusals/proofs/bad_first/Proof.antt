@@ -1,13 +1,13 @@
 use mathlib.Core.Path.{refl}
 use native.Mathlib.Omega.{arith}
 use borrow.Author.Tests.{lt-ltb, le-ltb}
-use Rattle.refusals.specs.Refusals.{badFirst}
+use Rattle.refusals.specs.Refusals.{bad_first}
 use borrow.Author.Rules.{rules}
 use Rattle.refusals.proofs.bad_first.Statement.{statement}
 use Rattle.refusals.proofs.bad_first.Tie as tie
 
 returns : tie.Need-returns
-unfolding badFirst
+unfolding bad_first
 returns c =
     let c-args = c.before.args in
     rw (lt-ltb c-args.links c-args.first (omega arith)) refl
@@ -16,7 +16,7 @@ takes-links-requires : tie.Need-takes-links-requires
 takes-links-requires c κs = search rules
 
 returns-2 : tie.Need-returns-2
-unfolding badFirst
+unfolding bad_first
 returns-2 c =
     let c-if2 = c.if2 in
     let c-takes-links = c.before.takes-links in
@@ -24,7 +24,7 @@ returns-2 c =
     rw (le-ltb c-args.links c-args.first (omega arith), ← c-takes-links.ensures, c-if2.true) refl
 
 returns-3 : tie.Need-returns-3
-unfolding badFirst
+unfolding bad_first
 returns-3 c =
     let c-if2 = c.if2 in
     let c-takes-links = c.before.takes-links in

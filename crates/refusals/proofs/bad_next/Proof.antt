@@ -1,11 +1,11 @@
 use mathlib.Core.Path.{refl}
-use Rattle.refusals.specs.Refusals.{badNext}
+use Rattle.refusals.specs.Refusals.{bad_next}
 use borrow.Author.Rules.{rules}
 use Rattle.refusals.proofs.bad_next.Statement.{statement}
 use Rattle.refusals.proofs.bad_next.Tie as tie
 
 returns : tie.Need-returns
-unfolding badNext
+unfolding bad_next
 returns c = refl
 
 pub bad-next-spec : {M : Type 1} → statement M

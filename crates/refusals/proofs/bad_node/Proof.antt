@@ -1,15 +1,15 @@
 use native.Mathlib.Omega.{arith}
 use Prim.Native.Nat.{◌≤◌, ◌-◌}
 use Rattle.refusals.specs.Search.{Clear}
-use Rattle.refusals.specs.Refusals.{badNode}
-use Rattle.refusals.proofs.SearchLaws.{clear_none, clear-more, first_found, first-none}
-use Rattle.refusals.proofs.RowLaws.{node-told}
+use Rattle.refusals.specs.Refusals.{bad_node}
+use Rattle.refusals.proofs.SearchLaws.{clear_none, clear_more, first_found, first_none}
+use Rattle.refusals.proofs.RowLaws.{node_told}
 use borrow.Author.Rules.{rules}
 use Rattle.refusals.proofs.bad_node.Statement.{statement}
 use Rattle.refusals.proofs.bad_node.Tie as tie
 
 abbrev invariant-loop : tie.invariant-loop
-invariant-loop graph end atoms links n₀ n = (n ≤ end) × Clear (badNode graph) 0 n
+invariant-loop graph end atoms links n₀ n = (n ≤ end) × Clear (bad_node graph) 0 n
 
 abbrev decreases-loop : tie.decreases-loop
 decreases-loop graph end atoms links n₀ n = end - n
@@ -50,7 +50,7 @@ returns c =
     let c-links = p1.before.links in
     let c-atoms = p1.before.before.atoms in
     let c-args = p1.before.before.before.before.before.args in
-    first_found c-loop.invariant.1 (omega arith) (node-told c-args.graph.now c-loop.n c-bad-record.ensures c-kind.ensures c-operand.ensures c-first-leaf.ensures c-atoms.ensures c-links.ensures c-if1.true)
+    first_found c-loop.invariant.1 (omega arith) (node_told c-args.graph.now c-loop.n c-bad-record.ensures c-kind.ensures c-operand.ensures c-first-leaf.ensures c-atoms.ensures c-links.ensures c-if1.true)
 
 add-n : tie.Need-overflow-add-n invariant-loop decreases-loop
 add-n c = search rules
@@ -70,12 +70,12 @@ loop-again c =
     let c-links = p1.before.links in
     let c-atoms = p1.before.before.atoms in
     let c-args = p1.before.before.before.before.before.args in
-    (omega arith, clear-more c-loop.invariant.1 (node-told c-args.graph.now c-loop.n c-bad-record.ensures c-kind.ensures c-operand.ensures c-first-leaf.ensures c-atoms.ensures c-links.ensures c-if1.false))
+    (omega arith, clear_more c-loop.invariant.1 (node_told c-args.graph.now c-loop.n c-bad-record.ensures c-kind.ensures c-operand.ensures c-first-leaf.ensures c-atoms.ensures c-links.ensures c-if1.false))
 
 returns-2 : tie.Need-returns-2 invariant-loop decreases-loop
 returns-2 c =
     let c-loop = c.before.loop in
-    first-none c-loop.invariant.1 (omega arith)
+    first_none c-loop.invariant.1 (omega arith)
 
 pub bad-node-spec : {M : Type 1} → statement M
 bad-node-spec =

@@ -1,5 +1,5 @@
 use mathlib.Core.Path.{refl}
-use Rattle.refusals.specs.Refusals.{badSize}
+use Rattle.refusals.specs.Refusals.{bad_size}
 use borrow.Author.Rules.{rules}
 use Rattle.refusals.proofs.bad_size.Statement.{statement}
 use Rattle.refusals.proofs.bad_size.Tie as tie
@@ -32,7 +32,7 @@ add-result-3 : tie.Need-overflow-add-result-3
 add-result-3 c = search rules
 
 returns : tie.Need-returns
-unfolding badSize
+unfolding bad_size
 returns c =
     let c-at3 = c.at3 in
     let c-at2 = c.before.at2 in

@@ -2,16 +2,16 @@
 use native.Mathlib.Omega.{arith}
 use Prim.Native.Nat.{◌+◌, ◌≤◌, ◌-◌}
 use Rattle.refusals.specs.Search.{Clear}
-use Rattle.refusals.specs.Refusals.{badLink}
-use Rattle.refusals.proofs.SearchLaws.{clear-more, first_found, first-none}
-use Rattle.refusals.proofs.RowLaws.{upward-passes, link-told}
-use Rattle.graph.proofs.DecodeLaws.{next-of, link-within}
+use Rattle.refusals.specs.Refusals.{bad_link}
+use Rattle.refusals.proofs.SearchLaws.{clear_more, first_found, first_none}
+use Rattle.refusals.proofs.RowLaws.{upward_passes, link_told}
+use Rattle.graph.proofs.DecodeLaws.{next_of_lem, link_within}
 use borrow.Author.Rules.{rules}
 use Rattle.refusals32.proofs.bad_link.Statement.{statement}
 use Rattle.refusals32.proofs.bad_link.Tie as tie
 
 abbrev invariant-loop : tie.invariant-loop
-invariant-loop graph start end from l₀ l = (1 ≤ l) × (l ≤ end + 1) × Clear (badLink graph) 1 l
+invariant-loop graph start end from l₀ l = (1 ≤ l) × (l ≤ end + 1) × Clear (bad_link graph) 1 l
 
 abbrev decreases-loop : tie.decreases-loop
 decreases-loop graph start end from l₀ l = end + 1 - l
@@ -26,14 +26,14 @@ loop-holds : tie.Need-loop-init invariant-loop decreases-loop
 loop-holds c =
     let c-pre = c.before.before.before.requires in
     let c-args = c.before.before.before.args in
-    (c-pre.2.low, omega arith, upward-passes c-args.graph.now c-pre.2)
+    (c-pre.2.low, omega arith, upward_passes c-args.graph.now c-pre.2)
 
 next-requires : tie.Need-next-requires invariant-loop decreases-loop
 next-requires c κs =
     let c-links-from = c.before.before.links-from in
     let p1 = c.before.before.before.before.before in
     let c-pre = p1.requires in
-    link-within c-links-from.ensures c-pre.0.size (omega arith) (omega arith)
+    link_within c-links-from.ensures c-pre.0.size (omega arith) (omega arith)
 
 bad-next-requires : tie.Need-bad-next-requires invariant-loop decreases-loop
 bad-next-requires c κs = search rules
@@ -49,7 +49,7 @@ returns c =
     let c-links = p1.before.before.links in
     let p2 = p1.before.before.before.before in
     let c-args = p2.args in
-    first_found c-loop.invariant.2 (omega arith) (link-told c-args.graph.now c-loop.l c-bad-next.ensures (next-of c-links-from.ensures c-loop.l c-next.ensures (omega arith)) c-links.ensures c-if1.true)
+    first_found c-loop.invariant.2 (omega arith) (link_told c-args.graph.now c-loop.l c-bad-next.ensures (next_of_lem c-links-from.ensures c-loop.l c-next.ensures (omega arith)) c-links.ensures c-if1.true)
 
 add-l : tie.Need-overflow-add-l invariant-loop decreases-loop
 add-l c = search rules
@@ -68,12 +68,12 @@ loop-again c =
     let c-links = p1.before.before.links in
     let p2 = p1.before.before.before.before in
     let c-args = p2.args in
-    (omega arith, omega arith, clear-more c-loop.invariant.2 (link-told c-args.graph.now c-loop.l c-bad-next.ensures (next-of c-links-from.ensures c-loop.l c-next.ensures (omega arith)) c-links.ensures c-if1.false))
+    (omega arith, omega arith, clear_more c-loop.invariant.2 (link_told c-args.graph.now c-loop.l c-bad-next.ensures (next_of_lem c-links-from.ensures c-loop.l c-next.ensures (omega arith)) c-links.ensures c-if1.false))
 
 returns-2 : tie.Need-returns-2 invariant-loop decreases-loop
 returns-2 c =
     let c-loop = c.before.loop in
-    first-none c-loop.invariant.2 (omega arith)
+    first_none c-loop.invariant.2 (omega arith)
 
 pub bad-link-spec : {M : Type 1} → statement M
 bad-link-spec =

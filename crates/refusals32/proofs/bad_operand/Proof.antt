@@ -1,6 +1,6 @@
 -- Written by tools/widen from crates/refusals/proofs/bad_operand/Proof.antt: edit that one.
 use mathlib.Core.Path.{refl}
-use Rattle.refusals.specs.Refusals.{badOperand}
+use Rattle.refusals.specs.Refusals.{bad_operand}
 use borrow.Author.Rules.{rules}
 use Rattle.refusals32.proofs.bad_operand.Statement.{statement}
 use Rattle.refusals32.proofs.bad_operand.Tie as tie
@@ -9,14 +9,14 @@ takes-operand-requires : tie.Need-takes-operand-requires
 takes-operand-requires c κs = search rules
 
 returns : tie.Need-returns
-unfolding badOperand
+unfolding bad_operand
 returns c =
     let c-if1 = c.if1 in
     let c-takes-operand = c.before.takes-operand in
     rw (← c-takes-operand.ensures, c-if1.true) refl
 
 returns-2 : tie.Need-returns-2
-unfolding badOperand
+unfolding bad_operand
 returns-2 c =
     let c-if1 = c.if1 in
     let c-takes-operand = c.before.takes-operand in

@@ -2,15 +2,15 @@
 use native.Mathlib.Omega.{arith}
 use Prim.Native.Nat.{◌≤◌, ◌-◌}
 use Rattle.refusals.specs.Search.{Clear}
-use Rattle.refusals.specs.Refusals.{badProducer}
-use Rattle.refusals.proofs.SearchLaws.{clear_none, clear-more, first_found, first-none}
-use Rattle.refusals.proofs.RowLaws.{producer-told}
+use Rattle.refusals.specs.Refusals.{bad_producer}
+use Rattle.refusals.proofs.SearchLaws.{clear_none, clear_more, first_found, first_none}
+use Rattle.refusals.proofs.RowLaws.{producer_told}
 use borrow.Author.Rules.{rules}
 use Rattle.refusals32.proofs.bad_producer.Statement.{statement}
 use Rattle.refusals32.proofs.bad_producer.Tie as tie
 
 abbrev invariant-loop : tie.invariant-loop
-invariant-loop graph end nodes links p₀ p = (p ≤ end) × Clear (badProducer graph) 0 p
+invariant-loop graph end nodes links p₀ p = (p ≤ end) × Clear (bad_producer graph) 0 p
 
 abbrev decreases-loop : tie.decreases-loop
 decreases-loop graph end nodes links p₀ p = end - p
@@ -47,7 +47,7 @@ returns c =
     let c-links = p1.before.links in
     let c-nodes = p1.before.before.nodes in
     let c-args = p1.before.before.before.before.before.args in
-    first_found c-loop.invariant.1 (omega arith) (producer-told c-args.graph.now c-loop.p c-bad-body.ensures c-body.ensures c-first-head.ensures c-nodes.ensures c-links.ensures c-if1.true)
+    first_found c-loop.invariant.1 (omega arith) (producer_told c-args.graph.now c-loop.p c-bad-body.ensures c-body.ensures c-first-head.ensures c-nodes.ensures c-links.ensures c-if1.true)
 
 add-p : tie.Need-overflow-add-p invariant-loop decreases-loop
 add-p c = search rules
@@ -66,12 +66,12 @@ loop-again c =
     let c-links = p1.before.links in
     let c-nodes = p1.before.before.nodes in
     let c-args = p1.before.before.before.before.before.args in
-    (omega arith, clear-more c-loop.invariant.1 (producer-told c-args.graph.now c-loop.p c-bad-body.ensures c-body.ensures c-first-head.ensures c-nodes.ensures c-links.ensures c-if1.false))
+    (omega arith, clear_more c-loop.invariant.1 (producer_told c-args.graph.now c-loop.p c-bad-body.ensures c-body.ensures c-first-head.ensures c-nodes.ensures c-links.ensures c-if1.false))
 
 returns-2 : tie.Need-returns-2 invariant-loop decreases-loop
 returns-2 c =
     let c-loop = c.before.loop in
-    first-none c-loop.invariant.1 (omega arith)
+    first_none c-loop.invariant.1 (omega arith)
 
 pub bad-producer-spec : {M : Type 1} → statement M
 bad-producer-spec =

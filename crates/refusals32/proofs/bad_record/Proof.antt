@@ -2,12 +2,12 @@
 use mathlib.Core.Path.{refl}
 use native.Mathlib.Omega.{arith}
 use borrow.Author.Tests.{lt-ltb, le-ltb}
-use Rattle.refusals.specs.Refusals.{badRecord}
+use Rattle.refusals.specs.Refusals.{bad_record}
 use Rattle.refusals32.proofs.bad_record.Statement.{statement}
 use Rattle.refusals32.proofs.bad_record.Tie as tie
 
 returns : tie.Need-returns
-unfolding badRecord
+unfolding bad_record
 returns c =
     let c-args = c.before.args in
     rw (lt-ltb 7 c-args.kind (omega arith)) refl
@@ -16,7 +16,7 @@ bad-operand-requires : tie.Need-bad-operand-requires
 bad-operand-requires c κs = omega arith
 
 returns-2 : tie.Need-returns-2
-unfolding badRecord
+unfolding bad_record
 returns-2 c =
     let c-if2 = c.if2 in
     let c-bad-operand = c.before.bad-operand in
@@ -27,7 +27,7 @@ bad-first-requires : tie.Need-bad-first-requires
 bad-first-requires c κs = omega arith
 
 returns-3 : tie.Need-returns-3
-unfolding badRecord
+unfolding bad_record
 returns-3 c =
     let c-bad-first = c.bad-first in
     let c-if2 = c.before.if2 in

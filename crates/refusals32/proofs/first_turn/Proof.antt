@@ -2,16 +2,16 @@
 use native.Mathlib.Omega.{arith}
 use Prim.Native.Nat.{◌+◌, ◌≤◌, ◌-◌}
 use Rattle.refusals.specs.Search.{Clear}
-use Rattle.refusals.specs.Passed.{turnsAt}
-use Rattle.refusals.proofs.SearchLaws.{clear_none, clear-more, first_found, first-none}
-use Rattle.refusals.proofs.RowLaws.{turn-told}
-use Rattle.graph.proofs.DecodeLaws.{next-of, link-within}
+use Rattle.refusals.specs.Passed.{turns_at}
+use Rattle.refusals.proofs.SearchLaws.{clear_none, clear_more, first_found, first_none}
+use Rattle.refusals.proofs.RowLaws.{turn_told}
+use Rattle.graph.proofs.DecodeLaws.{next_of_lem, link_within}
 use borrow.Author.Rules.{rules}
 use Rattle.refusals32.proofs.first_turn.Statement.{statement}
 use Rattle.refusals32.proofs.first_turn.Tie as tie
 
 abbrev invariant-loop : tie.invariant-loop
-invariant-loop graph end from l₀ l = (l ≤ end + 1) × Clear (turnsAt graph) 1 l
+invariant-loop graph end from l₀ l = (l ≤ end + 1) × Clear (turns_at graph) 1 l
 
 abbrev decreases-loop : tie.decreases-loop
 decreases-loop graph end from l₀ l = end + 1 - l
@@ -30,7 +30,7 @@ next-requires c κs =
     let c-links-from = c.before.before.links-from in
     let p1 = c.before.before.before.before.before in
     let c-pre = p1.requires in
-    link-within c-links-from.ensures c-pre.size (omega arith) (omega arith)
+    link_within c-links-from.ensures c-pre.size (omega arith) (omega arith)
 
 turns-requires : tie.Need-turns-requires invariant-loop decreases-loop
 turns-requires c κs = search rules
@@ -46,7 +46,7 @@ returns c =
     let c-links = p1.before.before.links in
     let p2 = p1.before.before.before.before in
     let c-args = p2.args in
-    first_found c-loop.invariant.1 (omega arith) (turn-told c-args.graph.now c-loop.l c-turns.ensures (next-of c-links-from.ensures c-loop.l c-next.ensures (omega arith)) c-links.ensures c-if1.true)
+    first_found c-loop.invariant.1 (omega arith) (turn_told c-args.graph.now c-loop.l c-turns.ensures (next_of_lem c-links-from.ensures c-loop.l c-next.ensures (omega arith)) c-links.ensures c-if1.true)
 
 add-l : tie.Need-overflow-add-l invariant-loop decreases-loop
 add-l c = search rules
@@ -65,12 +65,12 @@ loop-again c =
     let c-links = p1.before.before.links in
     let p2 = p1.before.before.before.before in
     let c-args = p2.args in
-    (omega arith, clear-more c-loop.invariant.1 (turn-told c-args.graph.now c-loop.l c-turns.ensures (next-of c-links-from.ensures c-loop.l c-next.ensures (omega arith)) c-links.ensures c-if1.false))
+    (omega arith, clear_more c-loop.invariant.1 (turn_told c-args.graph.now c-loop.l c-turns.ensures (next_of_lem c-links-from.ensures c-loop.l c-next.ensures (omega arith)) c-links.ensures c-if1.false))
 
 returns-2 : tie.Need-returns-2 invariant-loop decreases-loop
 returns-2 c =
     let c-loop = c.before.loop in
-    first-none c-loop.invariant.1 (omega arith)
+    first_none c-loop.invariant.1 (omega arith)
 
 pub first-turn-spec : {M : Type 1} → statement M
 first-turn-spec =

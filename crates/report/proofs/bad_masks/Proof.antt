@@ -1,5 +1,5 @@
-use Rattle.report.specs.Report.{badMasks}
-use Rattle.report.proofs.CallLaws.{accepted-few}
+use Rattle.report.specs.Report.{bad_masks}
+use Rattle.report.proofs.CallLaws.{accepted_few}
 use borrow.Author.Rules.{rules}
 use Rattle.report.proofs.bad_masks.Statement.{statement}
 use Rattle.report.proofs.bad_masks.Tie as tie
@@ -8,7 +8,7 @@ atoms-requires : tie.Need-atoms-requires
 atoms-requires c κs =
     let c-args = c.before.before.args in
     let c-pre = c.before.before.requires in
-    (accepted-few c-args.graph.now c-pre).long
+    (accepted_few c-args.graph.now c-pre).long
 
 words-requires : tie.Need-words-requires
 words-requires c κs = search rules
@@ -21,7 +21,7 @@ nodes-requires c κs =
     let p1 = c.before.before.before.before in
     let c-args = p1.args in
     let c-pre = p1.requires in
-    (accepted-few c-args.graph.now c-pre).long
+    (accepted_few c-args.graph.now c-pre).long
 
 words-requires-2 : tie.Need-words-requires-2
 words-requires-2 c κs = search rules
@@ -33,7 +33,7 @@ add-result : tie.Need-overflow-add-result
 add-result c = search rules
 
 returns : tie.Need-returns
-unfolding badMasks
+unfolding bad_masks
 returns c =
     let c-words2 = c.words2 in
     let c-nodes = c.before.nodes in

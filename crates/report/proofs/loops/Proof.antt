@@ -1,4 +1,4 @@
-use Rattle.report.proofs.CallLaws.{loops-reply}
+use Rattle.report.proofs.CallLaws.{loops_reply}
 use borrow.Author.Rules.{rules}
 use Rattle.report.proofs.loops.Statement.{statement}
 use Rattle.report.proofs.loops.Tie as tie
@@ -29,7 +29,7 @@ returns c =
     let p2 = p1.before.before.before.before in
     let c-args = p2.args in
     let c-pre = p2.requires in
-    loops-reply c-args.graph.now c-args.work.now c-pre.0 c-pre.1 c-needed.ensures.0 c-enum-told.given.1
+    loops_reply c-args.graph.now c-args.work.now c-pre.0 c-pre.1 c-needed.ensures.0 c-enum-told.given.1
 
 same-length-2 : tie.Need-same-length-2
 same-length-2 c = search rules
@@ -42,7 +42,7 @@ returns-2 c =
     let p2 = p1.before.before.before.before in
     let c-args = p2.args in
     let c-pre = p2.requires in
-    loops-reply c-args.graph.now c-args.work.now c-pre.0 c-pre.1 c-needed.ensures.0 c-enum-told2.given.1
+    loops_reply c-args.graph.now c-args.work.now c-pre.0 c-pre.1 c-needed.ensures.0 c-enum-told2.given.1
 
 same-length-3 : tie.Need-same-length-3
 same-length-3 c = search rules
@@ -55,7 +55,7 @@ returns-3 c =
     let p2 = p1.before.before.before.before in
     let c-args = p2.args in
     let c-pre = p2.requires in
-    loops-reply c-args.graph.now c-args.work.now c-pre.0 c-pre.1 c-needed.ensures.0 c-enum-told3.given.1
+    loops_reply c-args.graph.now c-args.work.now c-pre.0 c-pre.1 c-needed.ensures.0 c-enum-told3.given.1
 
 same-length-4 : tie.Need-same-length-4
 same-length-4 c = search rules
@@ -68,7 +68,7 @@ returns-4 c =
     let p2 = p1.before.before.before.before in
     let c-args = p2.args in
     let c-pre = p2.requires in
-    loops-reply c-args.graph.now c-args.work.now c-pre.0 c-pre.1 c-needed.ensures.0 c-enum-told4.given.1
+    loops_reply c-args.graph.now c-args.work.now c-pre.0 c-pre.1 c-needed.ensures.0 c-enum-told4.given.1
 
 pub loops-spec : {M : Type 1} → statement M
 loops-spec =

@@ -3,10 +3,10 @@ use native.Mathlib.Omega.{arith}
 use Prim.Native.Nat.{◌<◌}
 use lib.ListN.{get_or}
 use Rattle.theory.specs.Accepted.{edition1}
-use Rattle.refusals.proofs.PlaceLaws.{graph-place}
+use Rattle.refusals.proofs.PlaceLaws.{graph_place}
 use Rattle.refusals.specs.Answer.{Answer, refuse}
 use Rattle.refusals.specs.Refusals.{answer_of}
-use Rattle.report.proofs.CallLaws.{print-refusal, checked-other, graph-accepts, answer-graph, answer-masks}
+use Rattle.report.proofs.CallLaws.{print_refusal, checked_other, graph_accepts, answer_graph, answer_masks}
 use borrow.Author.Rules.{rules}
 use Rattle.report.proofs.report_graph.Statement.{statement}
 use Rattle.report.proofs.report_graph.Tie as tie
@@ -26,7 +26,7 @@ put-refusal-requires c κs =
     let n : get_or ws 2 0 < 65536 = omega (arith, c.before.before.before.before.before.before.before.shared-slice-known.given 2) in
     let p : get_or ws 3 0 < 65536 = omega (arith, c.before.before.before.before.before.before.before.shared-slice-known.given 3) in
     let k : get_or ws 4 0 < 65536 = omega (arith, c.before.before.before.before.before.before.before.shared-slice-known.given 4) in
-    let low : c.checked-place.result < 65536 = rw (c.checked-place.ensures, c.before.before.before.before.check.ensures) (graph-place (omega arith) edition1 ws n p k) in
+    let low : c.checked-place.result < 65536 = rw (c.checked-place.ensures, c.before.before.before.before.check.ensures) (graph_place (omega arith) edition1 ws n p k) in
     (search rules, low, search rules)
 
 same_length : tie.Need-same-length
@@ -43,8 +43,8 @@ returns c =
     let p2 = p1.before.before.before.before.before.before in
     let c-args = p2.args in
     let a = answer_of c-check.result in
-    print-refusal a 0 (answer-graph c-args.graph.now c-args.masks.now 0 a (sym c-check.ensures) (λ z. c-if1.true (c-checked-number.ensures.0 ∙ z)))
-    c-checked-number.ensures.0 c-checked-place.ensures c-if1.true (λ z. absurd (checked-other c-check.result z)) c-put-refusal.ensures
+    print_refusal a 0 (answer_graph c-args.graph.now c-args.masks.now 0 a (sym c-check.ensures) (λ z. c-if1.true (c-checked-number.ensures.0 ∙ z)))
+    c-checked-number.ensures.0 c-checked-place.ensures c-if1.true (λ z. absurd (checked_other c-check.result z)) c-put-refusal.ensures
 
 bad-masks-requires : tie.Need-bad-masks-requires
 bad-masks-requires c κs =
@@ -53,7 +53,7 @@ bad-masks-requires c κs =
     let c-check = c.before.before.check in
     let p1 = c.before.before.before.before.before.before in
     let c-args = p1.args in
-    graph-accepts c-args.graph.now (ap (λ (a : Answer). a.number) (sym c-check.ensures) ∙ sym c-checked-number.ensures.0 ∙ c-if1.false)
+    graph_accepts c-args.graph.now (ap (λ (a : Answer). a.number) (sym c-check.ensures) ∙ sym c-checked-number.ensures.0 ∙ c-if1.false)
 
 put-refusal-requires-2 : tie.Need-put-refusal-requires-2
 put-refusal-requires-2 c κs = search rules
@@ -73,8 +73,8 @@ returns-2 c =
     let c-check = p2.check in
     let p3 = p2.before.before.before.before in
     let c-args = p3.args in
-    let e = graph-accepts c-args.graph.now (ap (λ (a : Answer). a.number) (sym c-check.ensures) ∙ sym c-checked-number.ensures.0 ∙ c-if1.false) in
-    print-refusal (refuse 10 0) 0 (answer-masks c-args.graph.now c-args.masks.now 0 e (sym c-bad-masks.ensures ∙ c-if2.true))
+    let e = graph_accepts c-args.graph.now (ap (λ (a : Answer). a.number) (sym c-check.ensures) ∙ sym c-checked-number.ensures.0 ∙ c-if1.false) in
+    print_refusal (refuse 10 0) 0 (answer_masks c-args.graph.now c-args.masks.now 0 e (sym c-bad-masks.ensures ∙ c-if2.true))
     refl refl (λ z. omega arith) (λ z. absurd (omega arith)) c-put-refusal2.ensures
 
 report-masks-requires : tie.Need-report-masks-requires
@@ -88,7 +88,7 @@ report-masks-requires c κs =
     let p2 = p1.before.before.before.before.before in
     let c-args = p2.args in
     let c-pre = p2.requires in
-    (graph-accepts c-args.graph.now (ap (λ (a : Answer). a.number) (sym c-check.ensures) ∙ sym c-checked-number.ensures.0 ∙ c-if1.false), sym c-bad-masks.ensures ∙ c-if2.false, c-pre)
+    (graph_accepts c-args.graph.now (ap (λ (a : Answer). a.number) (sym c-check.ensures) ∙ sym c-checked-number.ensures.0 ∙ c-if1.false), sym c-bad-masks.ensures ∙ c-if2.false, c-pre)
 
 same-length-3 : tie.Need-same-length-3
 same-length-3 c = search rules

@@ -2,7 +2,7 @@ use mathlib.Core.Path.{sym}
 use native.Mathlib.Omega.{arith}
 use lib.Seq.{length-take-le}
 use Rattle.input.proofs.ByteLaws.{rest_all}
-use Rattle.report.proofs.InputLaws.{report-whole}
+use Rattle.report.proofs.InputLaws.{report_whole}
 use borrow.Author.Rules.{rules}
 use Rattle.report.proofs.report_input.Statement.{statement}
 use Rattle.report.proofs.report_input.Tie as tie
@@ -54,7 +54,7 @@ returns c =
     let c-graph-bytes = p1.before.before.before.graph-bytes in
     let p2 = p1.before.before.before.before.before.before in
     let c-args = p2.args in
-    report-whole c-args.input.now _ _ _ c-graph-bytes.result c-graph-bytes.ensures
+    report_whole c-args.input.now _ _ _ c-graph-bytes.result c-graph-bytes.ensures
     (rw (c-graph-words.ensures.decoded, rest_all c-args.input.now c-graph-bytes.result) at c-report-graph.ensures)
 
 pub report-input-spec : {M : Type 1} → statement M

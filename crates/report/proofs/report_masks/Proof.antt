@@ -1,6 +1,6 @@
 use mathlib.Core.Path.{sym, ◌∙◌}
 use native.Mathlib.Omega.{arith}
-use Rattle.report.proofs.CallLaws.{front_length, rest-length, atom-mask, node-mask, answer-row, print-same}
+use Rattle.report.proofs.CallLaws.{front_length, rest_length, atom_mask, node_mask, answer_row, print_same}
 use borrow.Author.Rules.{rules}
 use Rattle.report.proofs.report_masks.Statement.{statement}
 use Rattle.report.proofs.report_masks.Tie as tie
@@ -21,7 +21,7 @@ slice-aggregate-mask-words-2 c = search rules
 mask-words-requires : tie.Need-mask-words-requires
 mask-words-requires c κs =
     let c-atom-bytes = c.before.before.atom-bytes in
-    omega (arith, c-atom-bytes.ensures.atoms-few, front_length c-atom-bytes.ensures)
+    omega (arith, c-atom-bytes.ensures.atoms_few, front_length c-atom-bytes.ensures)
 
 sub-mask-words : tie.Need-overflow-sub-mask-words
 sub-mask-words c =
@@ -45,7 +45,7 @@ mask-words-requires-2 : tie.Need-mask-words-requires-2
 mask-words-requires-2 c κs =
     let p1 = c.before.before.before.before.before.before in
     let c-atom-bytes = p1.atom-bytes in
-    omega (arith, c-atom-bytes.ensures.nodes-few, rest-length c-atom-bytes.ensures)
+    omega (arith, c-atom-bytes.ensures.nodes_few, rest_length c-atom-bytes.ensures)
 
 array-share-prefix-never : tie.Need-array-share-prefix-never
 array-share-prefix-never c = search rules
@@ -70,8 +70,8 @@ report-words-requires c κs =
     let c-pre = p3.requires in
     record {
       accepted = c-pre.0;
-      node-words = omega (arith, c-mask-words2.ensures.exact, c-mask-words2.ensures.count, rest-length c-atom-bytes.ensures);
-      atom-words = omega (arith, c-mask-words.ensures.exact, c-mask-words.ensures.count, c-atom-bytes.ensures.atoms, front_length c-atom-bytes.ensures);
+      node_words = omega (arith, c-mask-words2.ensures.exact, c-mask-words2.ensures.count, rest_length c-atom-bytes.ensures);
+      atom_words = omega (arith, c-mask-words.ensures.exact, c-mask-words.ensures.count, c-atom-bytes.ensures.atoms, front_length c-atom-bytes.ensures);
       room = c-pre.2;
     }
 
@@ -89,8 +89,8 @@ returns c =
     let p3 = p2.before.before.before.before.before.before.before in
     let c-args = p3.args in
     let c-pre = p3.requires in
-    print-same (λ p. answer-row c-args.graph.now c-args.masks.now p c-pre.0 c-pre.1)
-    (rw (c-mask-words2.ensures.decoded ∙ node-mask c-atom-bytes.ensures, c-mask-words.ensures.decoded ∙ atom-mask c-atom-bytes.ensures) at c-report-words.ensures)
+    print_same (λ p. answer-row c-args.graph.now c-args.masks.now p c-pre.0 c-pre.1)
+    (rw (c-mask-words2.ensures.decoded ∙ node_mask c-atom-bytes.ensures, c-mask-words.ensures.decoded ∙ atom_mask c-atom-bytes.ensures) at c-report-words.ensures)
 
 pub report-masks-spec : {M : Type 1} → statement M
 report-masks-spec =

@@ -4,10 +4,10 @@ use borrow.Author.Tests.{eq-eqb}
 use Prim.Native.Nat.{◌<◌}
 use lib.ListN.{get_or}
 use Rattle.theory.specs.Accepted.{edition1}
-use Rattle.founded.proofs.PlaceLaws.{completed-place}
+use Rattle.founded.proofs.PlaceLaws.{completed_place}
 use Rattle.refusals.specs.Answer.{Answer}
-use Rattle.founded.specs.Answers.{completedOf, Completes}
-use Rattle.report.proofs.CallLaws.{pass-row, accepted-few, print-refusal, print-both, lines_same}
+use Rattle.founded.specs.Answers.{completed_of, Completes}
+use Rattle.report.proofs.CallLaws.{pass_row, accepted_few, print_refusal, print_both, lines_same}
 use borrow.Author.Rules.{rules}
 use Rattle.report.proofs.report_pass.Statement.{statement}
 use Rattle.report.proofs.report_pass.Tie as tie
@@ -30,7 +30,7 @@ put-refusal-requires c κs =
     let n : get_or ws 2 0 < 65536 = omega (arith, c.before.before.before.before.before.before.before.before.before.before.before.before.before.before.before.before.before.before.before.before.shared-slice-known.given 2) in
     let p : get_or ws 3 0 < 65536 = omega (arith, c.before.before.before.before.before.before.before.before.before.before.before.before.before.before.before.before.before.before.before.before.shared-slice-known.given 3) in
     let k : get_or ws 4 0 < 65536 = omega (arith, c.before.before.before.before.before.before.before.before.before.before.before.before.before.before.before.before.before.before.before.before.shared-slice-known.given 4) in
-    let low : c.completed-place.result < 65536 = rw c.completed-place.ensures (completed-place (omega arith) edition1 ws n p k c.before.before.before.before.before.before.before.before.complete.ensures) in
+    let low : c.completed_place.result < 65536 = rw c.completed_place.ensures (completed_place (omega arith) edition1 ws n p k c.before.before.before.before.before.before.before.before.complete.ensures) in
     (search rules, low, search rules)
 
 same_length : tie.Need-same-length
@@ -45,7 +45,7 @@ same-length-3 c = search rules
 returns : tie.Need-returns
 returns c =
     let c-put-refusal = c.before.before.put-refusal in
-    let c-completed-place = c.before.before.before.completed-place in
+    let c-completed-place = c.before.before.before.completed_place in
     let p1 = c.before.before.before.before.before in
     let c-if1 = p1.if1 in
     let c-completed-number = p1.before.completed-number in
@@ -56,17 +56,17 @@ returns c =
     let p4 = p3.before.before.before.before.before.before.before.before in
     let c-args = p4.args in
     let c-pre = p4.requires in
-    let a = completedOf c-complete.result in
+    let a = completed_of c-complete.result in
     let done : Completes edition1 c-args.graph.now c-args.never.now c-args.atom-never.now c-args.output.now c-loops.last.1.0 c-complete.new.1.1.1.0 c-complete.new.1.1.1.1.0 c-complete.result = c-complete.ensures in
-    let row = pass-row c-pre.0 c-pre.1.0 (c-loops.auto.1.0 ∙ c-pre.1.1) done in
-    print-refusal a a.place row c-completed-number.ensures.0 c-completed-place.ensures c-if1.true done.absorbed c-put-refusal.ensures
+    let row = pass_row c-pre.0 c-pre.1.0 (c-loops.auto.1.0 ∙ c-pre.1.1) done in
+    print_refusal a a.place row c-completed-number.ensures.0 c-completed-place.ensures c-if1.true done.absorbed c-put-refusal.ensures
 
 atoms-requires : tie.Need-atoms-requires
 atoms-requires c κs =
     let p1 = c.before.before.before.before.before.before.before.before.before.before.before.before.before.before.before.before.before.before.before.before.before in
     let c-args = p1.args in
     let c-pre = p1.requires in
-    (accepted-few c-args.graph.now c-pre.0.accepted).long
+    (accepted_few c-args.graph.now c-pre.0.accepted).long
 
 put-lines-requires : tie.Need-put-lines-requires
 put-lines-requires c κs =
@@ -74,7 +74,7 @@ put-lines-requires c κs =
     let p1 = c.before.before.before.before.before.before.before.before.before.before.before.before.before.before.before.before.before.before.before.before.before.before in
     let c-args = p1.args in
     let c-pre = p1.requires in
-    (omega (arith, c-atoms.ensures, (accepted-few c-args.graph.now c-pre.0.accepted).atoms), omega (arith, c-pre.0.room))
+    (omega (arith, c-atoms.ensures, (accepted_few c-args.graph.now c-pre.0.accepted).atoms), omega (arith, c-pre.0.room))
 
 same-length-4 : tie.Need-same-length-4
 same-length-4 c = search rules
@@ -99,12 +99,12 @@ returns-2 c =
     let p4 = p3.before.before.before.before.before.before.before.before in
     let c-args = p4.args in
     let c-pre = p4.requires in
-    let a = completedOf c-complete.result in
+    let a = completed_of c-complete.result in
     let done : Completes edition1 c-args.graph.now c-args.never.now c-args.atom-never.now c-args.output.now c-loops.last.1.0 c-complete.new.1.1.1.0 c-complete.new.1.1.1.1.0 c-complete.result = c-complete.ensures in
-    let row = pass-row c-pre.0 c-pre.1.0 (c-loops.auto.1.0 ∙ c-pre.1.1) done in
+    let row = pass_row c-pre.0 c-pre.1.0 (c-loops.auto.1.0 ∙ c-pre.1.1) done in
     let none : a.number ≡ 0 = sym c-completed-number.ensures.0 ∙ c-if1.false in
-    print-both a.place (ap (λ (x : Answer). x.number) row ∙ none)
-    (lines_same c-args.graph.now c-args.never.now c-args.atom-never.now c-complete.new.1.1.1.0 c-loops.result c-atoms.result c-loops.ensures c-atoms.ensures (rw (eq-eqb a.number 0 none) at done.output-after))
+    print_both a.place (ap (λ (x : Answer). x.number) row ∙ none)
+    (lines_same c-args.graph.now c-args.never.now c-args.atom-never.now c-complete.new.1.1.1.0 c-loops.result c-atoms.result c-loops.ensures c-atoms.ensures (rw (eq-eqb a.number 0 none) at done.output_after))
     c-put-lines.ensures
 
 pub report-pass-spec : {M : Type 1} → statement M

@@ -1,7 +1,7 @@
 use mathlib.Core.Path.{refl, sym, ◌∙◌}
 use native.Mathlib.Omega.{arith}
 use lib.Seq.{length-take-le}
-use Rattle.report.proofs.CallLaws.{accepted-few}
+use Rattle.report.proofs.CallLaws.{accepted_few}
 use borrow.Author.Rules.{rules}
 use Rattle.report.proofs.report_words.Statement.{statement}
 use Rattle.report.proofs.report_words.Tie as tie
@@ -11,14 +11,14 @@ array-borrow-prefix-output c =
     let p1 = c.before.before.before.before in
     let c-pre = p1.requires in
     let c-args = p1.args in
-    omega (arith, c-pre.atom-words, (accepted-few c-args.graph.now c-pre.accepted).atoms)
+    omega (arith, c-pre.atom_words, (accepted_few c-args.graph.now c-pre.accepted).atoms)
 
 slice-aggregate-report-pass : tie.Need-slice-aggregate-report-pass
 slice-aggregate-report-pass c =
     let p1 = c.before.before.before.before.before in
     let c-pre = p1.requires in
     let c-args = p1.args in
-    sym (length-take-le _ _ (omega (arith, c-pre.atom-words, (accepted-few c-args.graph.now c-pre.accepted).atoms)))
+    sym (length-take-le _ _ (omega (arith, c-pre.atom_words, (accepted_few c-args.graph.now c-pre.accepted).atoms)))
 
 slice-aggregate-report-pass-2 : tie.Need-slice-aggregate-report-pass-2
 slice-aggregate-report-pass-2 c = search rules
@@ -28,7 +28,7 @@ report-pass-requires c κs =
     let p1 = c.before.before.before.before.before.before.before in
     let c-pre = p1.requires in
     let c-args = p1.args in
-    (c-pre, (length-take-le _ _ (omega (arith, c-pre.atom-words, (accepted-few c-args.graph.now c-pre.accepted).atoms)) ∙ c-pre.atom-words, refl))
+    (c-pre, (length-take-le _ _ (omega (arith, c-pre.atom_words, (accepted_few c-args.graph.now c-pre.accepted).atoms)) ∙ c-pre.atom_words, refl))
 
 same_length : tie.Need-same-length
 same_length c = search rules

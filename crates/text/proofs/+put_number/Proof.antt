@@ -1,5 +1,5 @@
 use native.Mathlib.Omega.{arith}
-use Rattle.text.proofs.TextLaws.{decimal_digit, decimal-more, digit-length, more-length, append-then}
+use Rattle.text.proofs.TextLaws.{decimal_digit, decimal_more, digit_length, more_length, append_then}
 use borrow.Author.Rules.{rules}
 use Prim.Native.Nat.{ℕ, ◌<◌}
 use borrow.Fn.Kinds.{In}
@@ -46,7 +46,7 @@ put-number-put-requires : (t : ℕ) → put-number-lts.Need-put-requires (
 ) (put-number-at t) put-number.Post
 put-number-put-requires t c κs =
     let s = c.before.before.before in
-    omega (arith, digit-length s.args.n c.before.if1.true)
+    omega (arith, digit_length s.args.n c.before.if1.true)
 
 put-number-same-length : (t : ℕ) → put-number-lts.Need-same-length (
   put_reads.Asked,
@@ -74,7 +74,7 @@ put-number-put-number-requires : (t : ℕ) → put-number-lts.Need-put-number-re
 ) (put-number-at t) put-number.Post
 put-number-put-number-requires t c κs =
     let s = c.before.before.before in
-    (omega (arith, s.requires.0), omega (arith, s.requires.1, more-length s.args.n c.before.if1.false))
+    (omega (arith, s.requires.0), omega (arith, s.requires.1, more_length s.args.n c.before.if1.false))
 
 put-number-cast-put-2 : (t : ℕ) → put-number-lts.Need-overflow-cast-put-2 (
   put_reads.Asked,
@@ -101,7 +101,7 @@ put-number-put-requires-2 : (t : ℕ) → put-number-lts.Need-put-requires-2 (
 put-number-put-requires-2 t c κs =
     let called = c.before.before.before.put-number in
     let s = c.before.before.before.before.before.before.before in
-    omega (arith, s.requires.1, called.ensures.end, called.auto.0, more-length s.args.n c.before.before.before.before.before.if1.false)
+    omega (arith, s.requires.1, called.ensures.end, called.auto.0, more_length s.args.n c.before.before.before.before.before.if1.false)
 
 put-number-same-length-2 : (t : ℕ) → put-number-lts.Need-same-length-2 (
   put_reads.Asked,
@@ -120,7 +120,7 @@ put-number-returns-2 : (t : ℕ) → put-number-lts.Need-returns-2 (
 put-number-returns-2 t c =
     let p = c.before.before.before.before.before.before in
     let s = p.before.before.before.before in
-    rw (decimal-more s.args.n p.before.before.if1.false) (append-then p.put-number.ensures c.before.before.put2.ensures)
+    rw (decimal_more s.args.n p.before.before.if1.false) (append_then p.put-number.ensures c.before.before.put2.ensures)
 
 pub +put-number-spec : {M : Type 1} → statement M
 +put-number-spec = close μ-put-number λ t. put-number-lts.spec (

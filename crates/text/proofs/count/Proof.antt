@@ -1,11 +1,11 @@
-use Rattle.mask.proofs.BitLaws.{digit-small}
+use Rattle.mask.proofs.BitLaws.{digit_small}
 use mathlib.Core.Path.{◌≡◌, refl}
 use Prim.Native.Nat.{◌-◌, ◌≤◌}
 use native.Mathlib.Omega.{arith}
 use lib.ListN.{length}
 use Rattle.theory.specs.Sets.{members}
 use Rattle.theory.specs.Words.{bit_at}
-use Rattle.text.proofs.TextLaws.{count_next, count-few}
+use Rattle.text.proofs.TextLaws.{count_next, count_few}
 use borrow.Author.Rules.{rules}
 use Rattle.text.proofs.count.Statement.{statement}
 use Rattle.text.proofs.count.Tie as tie
@@ -32,7 +32,7 @@ add-set c =
     let c-loop = c.before.before.loop in
     let p1 = c.before.before.before.before in
     let c-args = p1.args in
-    omega (arith, c-loop.invariant, count-few c-loop.i (bit_at c-args.mask.now), digit-small c-bit.result)
+    omega (arith, c-loop.invariant, count_few c-loop.i (bit_at c-args.mask.now), digit_small c-bit.result)
 
 add-i : tie.Need-overflow-add-i invariant-loop decreases-loop
 add-i c = search rules

@@ -1,4 +1,4 @@
-use Rattle.text.proofs.TextLaws.{append-byte}
+use Rattle.text.proofs.TextLaws.{append_byte}
 use borrow.Author.Rules.{rules}
 use Rattle.text.proofs.put.Statement.{statement}
 use Rattle.text.proofs.put.Tie as tie
@@ -13,7 +13,7 @@ same_length : tie.Need-same-length
 same_length c = search rules
 
 returns : tie.Need-returns
-returns c = append-byte c.args.out.now c.args.at c.args.byte (search rules)
+returns c = append_byte c.args.out.now c.args.at c.args.byte (search rules)
 
 pub put_spec : {M : Type 1} → statement M
 put_spec = tie.close (tie.spec slice-write-out add-result same_length returns)

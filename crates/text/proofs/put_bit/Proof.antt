@@ -1,7 +1,7 @@
 use mathlib.Core.Path.{◌≡◌, sym, ◌∙◌}
 use mathlib.Core.Bool.{true, false}
 use Rattle.theory.specs.Words.{bit_at}
-use Rattle.text.proofs.TextLaws.{spaced-none, spaced-only, append-none}
+use Rattle.text.proofs.TextLaws.{spaced_none, spaced_only, append_none}
 use borrow.Author.Rules.{rules}
 use Rattle.text.proofs.put_bit.Statement.{statement}
 use Rattle.text.proofs.put_bit.Tie as tie
@@ -24,7 +24,7 @@ returns c =
     let p2 = p1.before.before.before.before in
     let c-args = p2.args in
     let set : bit_at c-args.mask.now c-args.i ≡ true = sym c-bit.ensures ∙ c-if1.true in
-    rw (set, spaced-only c-args.i) c-put-spaced.ensures
+    rw (set, spaced_only c-args.i) c-put-spaced.ensures
 
 returns-2 : tie.Need-returns-2
 returns-2 c =
@@ -33,7 +33,7 @@ returns-2 c =
     let p1 = c.before.before.before.before in
     let c-args = p1.args in
     let unset : bit_at c-args.mask.now c-args.i ≡ false = sym c-bit.ensures ∙ c-if1.false in
-    rw (unset, spaced-none) (append-none c-args.out.now c-args.at)
+    rw (unset, spaced_none) (append_none c-args.out.now c-args.at)
 
 pub put-bit-spec : {M : Type 1} → statement M
 put-bit-spec = tie.close (tie.spec bit-requires put-spaced-requires same_length returns returns-2)

@@ -5,7 +5,7 @@ use lib.ListN.{length}
 use Rattle.theory.specs.Sets.{members}
 use Rattle.theory.specs.Words.{bit_at}
 use Rattle.text.specs.Text.{spaced, Appended}
-use Rattle.text.proofs.TextLaws.{decimal-four, spaced-few, append-members, append-no-members}
+use Rattle.text.proofs.TextLaws.{decimal_four, spaced_few, append_members, append_no_members}
 use borrow.Author.Rules.{rules}
 use Rattle.text.proofs.put_bits.Statement.{statement}
 use Rattle.text.proofs.put_bits.Tie as tie
@@ -19,7 +19,7 @@ decreases-loop out₀ at mask n next₀ i₀ out next i = n - i
 loop-holds : tie.Need-loop-init invariant-loop decreases-loop
 loop-holds c =
     let c-args = c.before.before.args in
-    (omega arith, refl, append-no-members c-args.out.now c-args.at (bit_at c-args.mask.now))
+    (omega arith, refl, append_no_members c-args.out.now c-args.at (bit_at c-args.mask.now))
 
 put-bit-requires : tie.Need-put-bit-requires invariant-loop decreases-loop
 put-bit-requires c κs =
@@ -27,7 +27,7 @@ put-bit-requires c κs =
     let p1 = c.before.before.before.before.before in
     let c-args = p1.args in
     let small : c-loop.i < 10000 = omega arith in
-    omega (arith, c-loop.invariant.2.end, decimal-four c-loop.i small, spaced-few c-loop.i (bit_at c-args.mask.now) (omega arith))
+    omega (arith, c-loop.invariant.2.end, decimal_four c-loop.i small, spaced_few c-loop.i (bit_at c-args.mask.now) (omega arith))
 
 add-i : tie.Need-overflow-add-i invariant-loop decreases-loop
 add-i c = search rules
@@ -41,7 +41,7 @@ loop-again c =
     let p1 = c.before.before.before.before.before in
     let c-loop = p1.loop in
     let c-args = p1.before.before.before.args in
-    (omega arith, c-put-bit.auto.0 ∙ c-loop.invariant.1, append-members c-loop.i (bit_at c-args.mask.now) c-loop.invariant.2 c-put-bit.ensures)
+    (omega arith, c-put-bit.auto.0 ∙ c-loop.invariant.1, append_members c-loop.i (bit_at c-args.mask.now) c-loop.invariant.2 c-put-bit.ensures)
 
 same_length : tie.Need-same-length invariant-loop decreases-loop
 same_length c = search rules

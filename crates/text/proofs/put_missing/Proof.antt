@@ -2,8 +2,8 @@ use Prim.Native.Nat.{◌<◌}
 use native.Mathlib.Omega.{arith}
 use Rattle.theory.specs.Sets.{members}
 use Rattle.theory.specs.Words.{bit_at}
-use Rattle.text.specs.Text.{missingWord}
-use Rattle.text.proofs.TextLaws.{decimal-four, count-few, spaced-few, append-list}
+use Rattle.text.specs.Text.{missing_word}
+use Rattle.text.proofs.TextLaws.{decimal_four, count_few, spaced_few, append_list}
 use borrow.Author.Rules.{rules}
 use Rattle.text.proofs.put_missing.Statement.{statement}
 use Rattle.text.proofs.put_missing.Tie as tie
@@ -25,9 +25,9 @@ put-spaced-requires c κs =
     let p2 = p1.before.before.before.before.before in
     let c-args = p2.args in
     let c-pre = p2.requires in
-    let few = count-few c-args.atoms (bit_at c-args.mask.now) in
+    let few = count_few c-args.atoms (bit_at c-args.mask.now) in
     let small : c-count.result < 10000 = omega (arith, c-pre, c-count.ensures) in
-    omega (arith, c-pre, c-put-text.ensures.end, c-put-text.auto.0, decimal-four c-count.result small)
+    omega (arith, c-pre, c-put-text.ensures.end, c-put-text.auto.0, decimal_four c-count.result small)
 
 put-bits-requires : tie.Need-put-bits-requires
 put-bits-requires c κs =
@@ -39,9 +39,9 @@ put-bits-requires c κs =
     let p3 = p2.before.before.before.before.before in
     let c-args = p3.args in
     let c-pre = p3.requires in
-    let few = count-few c-args.atoms (bit_at c-args.mask.now) in
+    let few = count_few c-args.atoms (bit_at c-args.mask.now) in
     let small : c-count.result < 10000 = omega (arith, c-pre, c-count.ensures) in
-    omega (arith, c-pre, c-put-text.ensures.end, c-put-text.auto.0, c-put-spaced.ensures.end, c-put-spaced.auto.0, decimal-four c-count.result small)
+    omega (arith, c-pre, c-put-text.ensures.end, c-put-text.auto.0, c-put-spaced.ensures.end, c-put-spaced.auto.0, decimal_four c-count.result small)
 
 put-requires : tie.Need-put-requires
 put-requires c κs =
@@ -54,9 +54,9 @@ put-requires c κs =
     let p3 = p2.before.before.before.before.before in
     let c-args = p3.args in
     let c-pre = p3.requires in
-    let few = count-few c-args.atoms (bit_at c-args.mask.now) in
+    let few = count_few c-args.atoms (bit_at c-args.mask.now) in
     let small : c-count.result < 10000 = omega (arith, c-pre, c-count.ensures) in
-    omega (arith, c-pre, c-put-text.ensures.end, c-put-text.auto.0, c-put-spaced.ensures.end, c-put-spaced.auto.0, c-put-bits.ensures.end, c-put-bits.auto.0, decimal-four c-count.result small, spaced-few c-args.atoms (bit_at c-args.mask.now) (omega (arith, c-pre)))
+    omega (arith, c-pre, c-put-text.ensures.end, c-put-text.auto.0, c-put-spaced.ensures.end, c-put-spaced.auto.0, c-put-bits.ensures.end, c-put-bits.auto.0, decimal_four c-count.result small, spaced_few c-args.atoms (bit_at c-args.mask.now) (omega (arith, c-pre)))
 
 same_length : tie.Need-same-length
 same_length c = search rules
@@ -73,7 +73,7 @@ returns c =
     let c-put-text = p3.put-text in
     let p4 = p3.before.before.before.before.before in
     let c-args = p4.args in
-    append-list missingWord (members c-args.atoms (bit_at c-args.mask.now)) c-put-text.ensures (rw c-count.ensures at c-put-spaced.ensures) c-put-bits.ensures c-put.ensures
+    append_list missing_word (members c-args.atoms (bit_at c-args.mask.now)) c-put-text.ensures (rw c-count.ensures at c-put-spaced.ensures) c-put-bits.ensures c-put.ensures
 
 pub put-missing-spec : {M : Type 1} → statement M
 put-missing-spec =

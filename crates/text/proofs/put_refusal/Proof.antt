@@ -1,8 +1,8 @@
 use mathlib.Core.List.{[], ◌∷◌}
 use Prim.Native.Nat.{◌<◌}
 use native.Mathlib.Omega.{arith}
-use Rattle.text.specs.Text.{refusedWord, Appended}
-use Rattle.text.proofs.TextLaws.{decimal-five, append-word, append-number, append-line}
+use Rattle.text.specs.Text.{refused_word, Appended}
+use Rattle.text.proofs.TextLaws.{decimal_five, append_word, append_number, append_line}
 use borrow.Author.Rules.{rules}
 use Rattle.text.proofs.put_refusal.Statement.{statement}
 use Rattle.text.proofs.put_refusal.Tie as tie
@@ -20,7 +20,7 @@ put-spaced-requires c κs =
     let c-args = p1.args in
     let c-pre = p1.requires in
     let small : c-args.number < 100000 = omega arith in
-    omega (arith, c-put-text.ensures.end, c-put-text.auto.0, c-pre, decimal-five c-args.number small)
+    omega (arith, c-put-text.ensures.end, c-put-text.auto.0, c-pre, decimal_five c-args.number small)
 
 put-spaced-requires-2 : tie.Need-put-spaced-requires-2
 put-spaced-requires-2 c κs =
@@ -32,7 +32,7 @@ put-spaced-requires-2 c κs =
     let c-pre = p2.requires in
     let small : c-args.number < 100000 = omega (arith, c-pre) in
     let small2 : c-args.place < 100000 = omega (arith, c-pre) in
-    omega (arith, c-put-text.ensures.end, c-put-text.auto.0, c-put-spaced.ensures.end, c-put-spaced.auto.0, c-pre, decimal-five c-args.number small, decimal-five c-args.place small2)
+    omega (arith, c-put-text.ensures.end, c-put-text.auto.0, c-put-spaced.ensures.end, c-put-spaced.auto.0, c-pre, decimal_five c-args.number small, decimal_five c-args.place small2)
 
 put-requires : tie.Need-put-requires
 put-requires c κs =
@@ -46,7 +46,7 @@ put-requires c κs =
     let c-pre = p3.requires in
     let small : c-args.number < 100000 = omega (arith, c-pre) in
     let small2 : c-args.place < 100000 = omega (arith, c-pre) in
-    omega (arith, c-put-text.ensures.end, c-put-text.auto.0, c-put-spaced.ensures.end, c-put-spaced.auto.0, c-put-spaced2.ensures.end, c-put-spaced2.auto.0, c-pre, decimal-five c-args.number small, decimal-five c-args.place small2)
+    omega (arith, c-put-text.ensures.end, c-put-text.auto.0, c-put-spaced.ensures.end, c-put-spaced.auto.0, c-put-spaced2.ensures.end, c-put-spaced2.auto.0, c-pre, decimal_five c-args.number small, decimal_five c-args.place small2)
 
 same_length : tie.Need-same-length
 same_length c = search rules
@@ -62,8 +62,8 @@ returns c =
     let c-put-text = p3.put-text in
     let p4 = p3.before.before.before.before in
     let c-args = p4.args in
-    let word : Appended c-args.out.now 0 refusedWord c-put-text.new.0 c-put-text.result = c-put-text.ensures in
-    append-line refusedWord (c-args.number ∷ c-args.place ∷ []) (append-number refusedWord (c-args.number ∷ []) c-args.place (append-number refusedWord [] c-args.number (append-word refusedWord word) c-put-spaced.ensures) c-put-spaced2.ensures) c-put.ensures
+    let word : Appended c-args.out.now 0 refused_word c-put-text.new.0 c-put-text.result = c-put-text.ensures in
+    append_line refused_word (c-args.number ∷ c-args.place ∷ []) (append_number refused_word (c-args.number ∷ []) c-args.place (append_number refused_word [] c-args.number (append_word refused_word word) c-put-spaced.ensures) c-put-spaced2.ensures) c-put.ensures
 
 pub put-refusal-spec : {M : Type 1} → statement M
 put-refusal-spec =

@@ -1,4 +1,4 @@
-use Rattle.text.proofs.TextLaws.{append-then}
+use Rattle.text.proofs.TextLaws.{append_then}
 use borrow.Author.Rules.{rules}
 use Rattle.text.proofs.put_spaced.Statement.{statement}
 use Rattle.text.proofs.put_spaced.Tie as tie
@@ -17,7 +17,7 @@ returns c =
     let c-put-number = c.before.before.put-number in
     let p1 = c.before.before.before.before.before.before in
     let c-put = p1.put in
-    append-then c-put.ensures c-put-number.ensures
+    append_then c-put.ensures c-put-number.ensures
 
 pub put-spaced-spec : {M : Type 1} → statement M
 put-spaced-spec = tie.close (tie.spec put-requires put-number-requires same_length returns)

@@ -4,7 +4,7 @@ use mathlib.Core.Path.{◌≡◌, refl}
 use native.Mathlib.Omega.{arith}
 use lib.ListN.{length, take}
 use Rattle.text.specs.Text.{Appended}
-use Rattle.text.proofs.TextLaws.{append-start, append-next, append-whole}
+use Rattle.text.proofs.TextLaws.{append_start, append_next, append_whole}
 use Rattle.text.proofs.put_text.Statement.{statement}
 use Rattle.text.proofs.put_text.Tie as tie
 
@@ -15,7 +15,7 @@ abbrev decreases-loop : tie.decreases-loop
 decreases-loop out₀ at text i₀ out i = length text - i
 
 loop-holds : tie.Need-loop-init invariant-loop decreases-loop
-loop-holds c = (omega arith, refl, append-start c.args.out.now c.args.at c.args.text.now)
+loop-holds c = (omega arith, refl, append_start c.args.out.now c.args.at c.args.text.now)
 
 shared-slice-read-out : tie.Need-shared-slice-read-out invariant-loop decreases-loop
 shared-slice-read-out c = search rules
@@ -36,7 +36,7 @@ loop-again : tie.Need-loop-preserved invariant-loop decreases-loop
 loop-again c =
     let l = c.before.before.loop in
     let s = c.before.before.before in
-    (omega arith, search rules, append-next s.args.at s.args.text.now l.i l.invariant.2 (omega arith) (omega arith))
+    (omega arith, search rules, append_next s.args.at s.args.text.now l.i l.invariant.2 (omega arith) (omega arith))
 
 add-result : tie.Need-overflow-add-result invariant-loop decreases-loop
 add-result c = search rules
@@ -48,7 +48,7 @@ returns : tie.Need-returns invariant-loop decreases-loop
 returns c =
     let l = c.before.loop in
     let s = c.before.before in
-    append-whole s.args.at s.args.text.now l.i l.invariant.2 (omega arith)
+    append_whole s.args.at s.args.text.now l.i l.invariant.2 (omega arith)
 
 pub put-text-spec : {M : Type 1} → statement M
 put-text-spec =

@@ -15,7 +15,7 @@ code-requires c κs = search rules
 
 returns : tie.Need-returns
 returns c =
-    let c-place = c.before.completed-place in
+    let c-place = c.before.completed_place in
     let c-number = c.before.before.completed-number in
     told c-number.ensures.0 c-place.ensures c.code.ensures
 

@@ -3,7 +3,7 @@ use Prim.Native.Nat.{◌<◌}
 use native.Mathlib.Omega.{arith}
 use lib.ListN.{get_or}
 use Rattle.theory.specs.Accepted.{edition2}
-use Rattle.refusals.proofs.PlaceLaws.{graph-place}
+use Rattle.refusals.proofs.PlaceLaws.{graph_place}
 use borrow.Author.Rules.{rules}
 use Rattle.abi.proofs.wide.founded_wide_check.Statement.{statement}
 use Rattle.abi.proofs.wide.founded_wide_check.Tie as tie
@@ -17,7 +17,7 @@ checked-code-requires c κs =
     let n : get_or ws 2 0 < 4294967296 = omega (arith, c.before.shared-slice-known.given 2) in
     let p : get_or ws 3 0 < 4294967296 = omega (arith, c.before.shared-slice-known.given 3) in
     let k : get_or ws 4 0 < 4294967296 = omega (arith, c.before.shared-slice-known.given 4) in
-    rw c.check.ensures (graph-place (omega arith) edition2 ws n p k)
+    rw c.check.ensures (graph_place (omega arith) edition2 ws n p k)
 
 returns : tie.Need-returns
 returns c = rw (← c.before.check.ensures) c.checked-code.ensures

@@ -1,5 +1,5 @@
 -- Written by tools/widen from crates/abi/proofs/founded_needed/Proof.antt: edit that one.
-use Rattle.abi.proofs.CodeLaws.{needed-told, needed-placed}
+use Rattle.abi.proofs.CodeLaws.{needed_told, needed_placed}
 use Prim.Native.Nat.{◌<◌}
 use native.Mathlib.Omega.{arith}
 use lib.ListN.{get_or}
@@ -17,7 +17,7 @@ needed-code-requires c κs =
     let n : get_or ws 2 0 < 4294967296 = omega (arith, c.before.before.before.before.before.shared-slice-known.given 2) in
     let p : get_or ws 3 0 < 4294967296 = omega (arith, c.before.before.before.before.before.shared-slice-known.given 3) in
     let k : get_or ws 4 0 < 4294967296 = omega (arith, c.before.before.before.before.before.shared-slice-known.given 4) in
-    needed-placed 4294967296 edition2 ws c.before.before.before.before.before.before.args.work.now c.before.before.needed.ensures.0 (omega arith) n p k
+    needed_placed 4294967296 edition2 ws c.before.before.before.before.before.before.args.work.now c.before.before.needed.ensures.0 (omega arith) n p k
 
 same_length : tie.Need-same-length
 same_length c = search rules
@@ -25,7 +25,7 @@ same_length c = search rules
 returns : tie.Need-returns
 returns c =
     let c-needed = c.before.before.before.needed in
-    needed-told 4294967296 edition2 c-needed.ensures.0 c-needed.ensures.1.0 c-needed.ensures.1.1 c.needed-code.ensures
+    needed_told 4294967296 edition2 c-needed.ensures.0 c-needed.ensures.1.0 c-needed.ensures.1.1 c.needed-code.ensures
 
 pub founded-wide-needed-spec : {M : Type 1} → statement M
 founded-wide-needed-spec = tie.close (tie.spec needed-requires needed-code-requires same_length returns)

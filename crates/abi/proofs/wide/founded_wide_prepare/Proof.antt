@@ -3,7 +3,7 @@ use Prim.Native.Nat.{◌<◌}
 use native.Mathlib.Omega.{arith}
 use lib.ListN.{get_or}
 use Rattle.theory.specs.Accepted.{edition2}
-use Rattle.founded.proofs.PlaceLaws.{prepared-place}
+use Rattle.founded.proofs.PlaceLaws.{prepared_place}
 use borrow.Author.Rules.{rules}
 use Rattle.abi.proofs.wide.founded_wide_prepare.Statement.{statement}
 use Rattle.abi.proofs.wide.founded_wide_prepare.Tie as tie
@@ -17,7 +17,7 @@ prepared-code-requires c κs =
     let n : get_or ws 2 0 < 4294967296 = omega (arith, c.before.before.before.before.before.before.before.before.before.shared-slice-known.given 2) in
     let p : get_or ws 3 0 < 4294967296 = omega (arith, c.before.before.before.before.before.before.before.before.before.shared-slice-known.given 3) in
     let k : get_or ws 4 0 < 4294967296 = omega (arith, c.before.before.before.before.before.before.before.before.before.shared-slice-known.given 4) in
-    prepared-place (omega arith) edition2 ws n p k c.before.before.before.before.prepare.ensures
+    prepared_place (omega arith) edition2 ws n p k c.before.before.before.before.prepare.ensures
 
 same_length : tie.Need-same-length
 same_length c = search rules

@@ -1,7 +1,7 @@
 use Prim.Native.Nat.{◌-◌}
 use native.Mathlib.Omega.{arith}
 use lib.ListN.{length}
-use Rattle.agreement.proofs.CompareLaws.{Absent, absent_none, absent_more, among-yes, among-no}
+use Rattle.agreement.proofs.CompareLaws.{Absent, absent_none, absent_more, among_yes, among_no}
 use borrow.Author.Rules.{rules}
 use Rattle.agreement.proofs.memory.among.Statement.{statement}
 use Rattle.agreement.proofs.memory.among.Tie as tie
@@ -22,7 +22,7 @@ shared-slice-read-if1 : tie.Need-shared-slice-read-if1 invariant-loop decreases-
 shared-slice-read-if1 c = search rules
 
 returns : tie.Need-returns invariant-loop decreases-loop
-returns c = among-yes _ _ _ c.before.before.loop-test.true c.if1.true
+returns c = among_yes _ _ _ c.before.before.loop-test.true c.if1.true
 
 add-i : tie.Need-overflow-add-i invariant-loop decreases-loop
 add-i c = search rules
@@ -34,7 +34,7 @@ loop-again : tie.Need-loop-preserved invariant-loop decreases-loop
 loop-again c = absent_more _ _ _ c.before.before.before.loop.invariant c.before.before.loop-test.true c.if1.false
 
 returns-2 : tie.Need-returns-2 invariant-loop decreases-loop
-returns-2 c = among-no _ _ _ c.before.loop.invariant (omega arith)
+returns-2 c = among_no _ _ _ c.before.loop.invariant (omega arith)
 
 pub among-spec : {M : Type 1} → statement M
 among-spec =

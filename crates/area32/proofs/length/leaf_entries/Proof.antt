@@ -2,16 +2,16 @@ use mathlib.Core.Path.{◌≡◌, sym, ap, ◌∙◌}
 use Prim.Native.Nat.{◌-◌, ◌≤◌, ◌<◌}
 use native.Mathlib.Omega.{arith}
 use lib.ListN.{length}
-use Rattle.theory.specs.Sets.{sumBelow}
-use Rattle.theory.specs.Words.{chain, theoryOf}
-use Rattle.graph.proofs.DecodeLaws.{the-nodes, the-leaves}
-use Rattle.area.proofs.SumLaws.{sum-none, sum-turn, sum-most}
+use Rattle.theory.specs.Sets.{sum_below}
+use Rattle.theory.specs.Words.{chain, theory_of}
+use Rattle.graph.proofs.DecodeLaws.{the_nodes, the_leaves}
+use Rattle.area.proofs.SumLaws.{sum_none, sum_turn, sum_most}
 use borrow.Author.Rules.{rules}
 use Rattle.area32.proofs.length.leaf_entries.Statement.{statement}
 use Rattle.area32.proofs.length.leaf_entries.Tie as tie
 
 abbrev invariant-loop : tie.invariant-loop
-invariant-loop graph end total₀ n₀ total n = (n ≤ end) × (total ≡ sumBelow n (λ i. length ((theoryOf graph).leaves i)))
+invariant-loop graph end total₀ n₀ total n = (n ≤ end) × (total ≡ sum_below n (λ i. length ((theory_of graph).leaves i)))
 
 abbrev decreases-loop : tie.decreases-loop
 decreases-loop graph end total₀ n₀ total n = end - n
@@ -20,7 +20,7 @@ nodes-requires : tie.Need-nodes-requires invariant-loop decreases-loop
 nodes-requires c κs = search rules
 
 loop-holds : tie.Need-loop-init invariant-loop decreases-loop
-loop-holds c = (omega arith, sum-none _)
+loop-holds c = (omega arith, sum_none _)
 
 first-leaf-requires : tie.Need-first-leaf-requires invariant-loop decreases-loop
 first-leaf-requires c κs = search rules
@@ -32,7 +32,7 @@ entries-requires c κs =
     let c-loop = c.before.before.loop in
     let c-end = c.before.before.before.nodes in
     let c-pre = c.before.before.before.before.before.requires in
-    (c-pre, rw c-first.ensures (c-pre.leaf-chain c-loop.n (omega (arith, c-end.ensures))))
+    (c-pre, rw c-first.ensures (c-pre.leaf_chain c-loop.n (omega (arith, c-end.ensures))))
 
 add_total : tie.Need-overflow-add-total invariant-loop decreases-loop
 add_total c =
@@ -43,9 +43,9 @@ add_total c =
     let c-end = c.before.before.before.before.nodes in
     let ws = c.before.before.before.before.before.before.args.graph.now in
     let c-pre = c.before.before.before.before.before.before.requires in
-    let e : c-entries.result ≡ length ((theoryOf ws).leaves c-loop.n) = c-entries.ensures ∙ ap (λ l. length (chain ws l)) c-first.ensures ∙ ap length (sym (the-leaves ws c-loop.n)) in
-    let low : c-loop.n < (theoryOf ws).nodes = rw (the-nodes ws) (omega (arith, c-end.ensures)) in
-    omega (arith, sum-most (λ i. length ((theoryOf ws).leaves i)) low c-loop.invariant.1 e, c-pre.leaf-total)
+    let e : c-entries.result ≡ length ((theory_of ws).leaves c-loop.n) = c-entries.ensures ∙ ap (λ l. length (chain ws l)) c-first.ensures ∙ ap length (sym (the_leaves ws c-loop.n)) in
+    let low : c-loop.n < (theory_of ws).nodes = rw (the_nodes ws) (omega (arith, c-end.ensures)) in
+    omega (arith, sum_most (λ i. length ((theory_of ws).leaves i)) low c-loop.invariant.1 e, c-pre.leaf_total)
 
 add-n : tie.Need-overflow-add-n invariant-loop decreases-loop
 add-n c = search rules
@@ -62,9 +62,9 @@ loop-again c =
     let c-end = c.before.before.before.before.nodes in
     let ws = c.before.before.before.before.before.before.args.graph.now in
     let c-pre = c.before.before.before.before.before.before.requires in
-    let e : c-entries.result ≡ length ((theoryOf ws).leaves c-loop.n) = c-entries.ensures ∙ ap (λ l. length (chain ws l)) c-first.ensures ∙ ap length (sym (the-leaves ws c-loop.n)) in
-    let low : c-loop.n < (theoryOf ws).nodes = rw (the-nodes ws) (omega (arith, c-end.ensures)) in
-    (omega arith, sum-turn (λ i. length ((theoryOf ws).leaves i)) low c-loop.invariant.1 e)
+    let e : c-entries.result ≡ length ((theory_of ws).leaves c-loop.n) = c-entries.ensures ∙ ap (λ l. length (chain ws l)) c-first.ensures ∙ ap length (sym (the_leaves ws c-loop.n)) in
+    let low : c-loop.n < (theory_of ws).nodes = rw (the_nodes ws) (omega (arith, c-end.ensures)) in
+    (omega arith, sum_turn (λ i. length ((theory_of ws).leaves i)) low c-loop.invariant.1 e)
 
 returns : tie.Need-returns invariant-loop decreases-loop
 returns c =
@@ -72,8 +72,8 @@ returns c =
     let c-loop = c.before.loop in
     let c-end = c.before.before.nodes in
     let ws = c.before.before.before.before.args.graph.now in
-    let e : c-loop.n ≡ (theoryOf ws).nodes = rw (the-nodes ws) (omega (arith, c-end.ensures)) in
-    c-loop.invariant.1 ∙ ap (λ k. sumBelow k (λ i. length ((theoryOf ws).leaves i))) e
+    let e : c-loop.n ≡ (theory_of ws).nodes = rw (the_nodes ws) (omega (arith, c-end.ensures)) in
+    c-loop.invariant.1 ∙ ap (λ k. sum_below k (λ i. length ((theory_of ws).leaves i))) e
 
 pub leaf-entries-spec : {M : Type 1} → statement M
 leaf-entries-spec =

@@ -1,5 +1,5 @@
 use native.Mathlib.Omega.{arith}
-use Rattle.graph.proofs.DecodeLaws.{the-atoms, the-nodes, the-producers}
+use Rattle.graph.proofs.DecodeLaws.{the_atoms, the_nodes, the_producers}
 use borrow.Author.Rules.{rules}
 use Rattle.area32.proofs.length.words.Statement.{statement}
 use Rattle.area32.proofs.length.words.Tie as tie
@@ -44,7 +44,7 @@ returns : tie.Need-returns
 returns c =
     let p1 = c.before.before.before.before in
     let ws = p1.before.before.args.graph.now in
-    omega (arith, c.head-entries.ensures, c.before.leaf-entries.ensures, c.before.before.producers.ensures, c.before.before.before.nodes.ensures, p1.atoms.ensures, the-atoms ws, the-nodes ws, the-producers ws)
+    omega (arith, c.head-entries.ensures, c.before.leaf-entries.ensures, c.before.before.producers.ensures, c.before.before.before.nodes.ensures, p1.atoms.ensures, the_atoms ws, the_nodes ws, the_producers ws)
 
 pub words-spec : {M : Type 1} → statement M
 words-spec =

@@ -1,8 +1,8 @@
 use native.Mathlib.Omega.{arith}
 use lib.ListN.{get_or}
-use Rattle.refusals.specs.Answer.{firstRefusal}
-use Rattle.refusals.specs.Refusals.{graphRows}
-use Rattle.refusals.proofs.SearchLaws.{first-clear, row-refuses, row-passes}
+use Rattle.refusals.specs.Answer.{first_refusal}
+use Rattle.refusals.specs.Refusals.{graph_rows}
+use Rattle.refusals.proofs.SearchLaws.{first_clear, row_refuses, row_passes}
 use borrow.Author.Rules.{rules}
 use Rattle.checking.proofs.rows.check_records.Statement.{statement}
 use Rattle.checking.proofs.rows.check_records.Tie as tie
@@ -17,12 +17,12 @@ cast-t6 : tie.Need-overflow-cast-t6
 cast-t6 c = search rules
 
 returns : tie.Need-returns
-unfolding graphRows firstRefusal
+unfolding graph_rows first_refusal
 returns c =
     let c-bad-node = c.before.before.bad-node in
     let p1 = c.before.before.before.before in
     let c-args = p1.args in
-    let ws = c-args.graph.now in rw (row-refuses _ 4 0 (get_or ws 2 0) c-bad-node.ensures (omega arith) (omega arith))
+    let ws = c-args.graph.now in rw (row_refuses _ 4 0 (get_or ws 2 0) c-bad-node.ensures (omega arith) (omega arith))
 
 bad-producer-requires : tie.Need-bad-producer-requires
 bad-producer-requires c κs = search rules
@@ -34,13 +34,13 @@ cast-t7 : tie.Need-overflow-cast-t7
 cast-t7 c = search rules
 
 returns-2 : tie.Need-returns-2
-unfolding graphRows firstRefusal
+unfolding graph_rows first_refusal
 returns-2 c =
     let c-bad-producer = c.before.before.bad-producer in
     let p1 = c.before.before.before.before.before in
     let c-bad-node = p1.bad-node in
     let c-args = p1.before.before.args in
-    let ws = c-args.graph.now in rw (row-passes _ 4 0 (get_or ws 2 0) c-bad-node.ensures (omega arith) (omega arith), row-refuses _ 5 0 (get_or ws 3 0) c-bad-producer.ensures (omega arith) (omega arith))
+    let ws = c-args.graph.now in rw (row_passes _ 4 0 (get_or ws 2 0) c-bad-node.ensures (omega arith) (omega arith), row_refuses _ 5 0 (get_or ws 3 0) c-bad-producer.ensures (omega arith) (omega arith))
 
 check-links-requires : tie.Need-check-links-requires
 check-links-requires c κs =
@@ -48,17 +48,17 @@ check-links-requires c κs =
     let p1 = c.before.before.before.before.before in
     let c-bad-node = p1.bad-node in
     let c-pre = p1.before.before.requires in
-    (c-pre, (first-clear c-bad-node.ensures (omega arith), first-clear c-bad-producer.ensures (omega arith)))
+    (c-pre, (first_clear c-bad-node.ensures (omega arith), first_clear c-bad-producer.ensures (omega arith)))
 
 returns-3 : tie.Need-returns-3
-unfolding graphRows firstRefusal
+unfolding graph_rows first_refusal
 returns-3 c =
     let c-check-links = c.check-links in
     let c-bad-producer = c.before.before.before.bad-producer in
     let p1 = c.before.before.before.before.before.before in
     let c-bad-node = p1.bad-node in
     let c-args = p1.before.before.args in
-    let ws = c-args.graph.now in rw (row-passes _ 4 0 (get_or ws 2 0) c-bad-node.ensures (omega arith) (omega arith), row-passes _ 5 0 (get_or ws 3 0) c-bad-producer.ensures (omega arith) (omega arith)) c-check-links.ensures
+    let ws = c-args.graph.now in rw (row_passes _ 4 0 (get_or ws 2 0) c-bad-node.ensures (omega arith) (omega arith), row_passes _ 5 0 (get_or ws 3 0) c-bad-producer.ensures (omega arith) (omega arith)) c-check-links.ensures
 
 pub check-records-spec : {M : Type 1} → statement M
 check-records-spec =

@@ -1,10 +1,10 @@
 -- Written by tools/widen from crates/checking/proofs/rows/check_leaves/Proof.antt: edit that one.
 use native.Mathlib.Omega.{arith}
 use lib.ListN.{get_or}
-use Rattle.refusals.specs.Answer.{firstRefusal}
-use Rattle.refusals.specs.Refusals.{graphRows}
-use Rattle.refusals.proofs.SearchLaws.{row-refuses, row-passes}
-use Rattle.checking.proofs.WalkLaws.{walked-wrong, walked-fine}
+use Rattle.refusals.specs.Answer.{first_refusal}
+use Rattle.refusals.specs.Refusals.{graph_rows}
+use Rattle.refusals.proofs.SearchLaws.{row_refuses, row_passes}
+use Rattle.checking.proofs.WalkLaws.{walked_wrong, walked_fine}
 use borrow.Author.Rules.{rules}
 use Rattle.checking32.proofs.rows.check_leaves.Statement.{statement}
 use Rattle.checking32.proofs.rows.check_leaves.Tie as tie
@@ -21,7 +21,7 @@ cast-t6 c =
     let c-walk-leaves = c.before.before.before.walk-leaves in
     let p1 = c.before.before.before.before.before in
     let c-pre = p1.requires in
-    let w = walked-wrong c-walk-leaves.ensures c-n.given.1 in omega (arith, c-pre.0.nodes-few)
+    let w = walked_wrong c-walk-leaves.ensures c-n.given.1 in omega (arith, c-pre.0.nodes_few)
 
 enum-known-leaves : tie.Need-enum-known-leaves
 enum-known-leaves c = search rules
@@ -32,26 +32,26 @@ check-heads-requires c κs =
     let c-walk-leaves = c.before.before.before.walk-leaves in
     let p1 = c.before.before.before.before.before in
     let c-pre = p1.requires in
-    (c-pre.0, (c-pre.1, (walked-fine c-walk-leaves.ensures c-leaves.given.1).0))
+    (c-pre.0, (c-pre.1, (walked_fine c-walk-leaves.ensures c-leaves.given.1).0))
 
 returns : tie.Need-returns
-unfolding graphRows firstRefusal
+unfolding graph_rows first_refusal
 returns c =
     let c-n = c.before.n in
     let c-walk-leaves = c.before.before.before.walk-leaves in
     let p1 = c.before.before.before.before.before in
     let c-args = p1.args in
-    let w = walked-wrong c-walk-leaves.ensures c-n.given.1 in rw (row-refuses _ 7 0 (get_or c-args.graph.now 2 0) w.1 (omega arith) w.0)
+    let w = walked_wrong c-walk-leaves.ensures c-n.given.1 in rw (row_refuses _ 7 0 (get_or c-args.graph.now 2 0) w.1 (omega arith) w.0)
 
 returns-2 : tie.Need-returns-2
-unfolding graphRows firstRefusal
+unfolding graph_rows first_refusal
 returns-2 c =
     let c-check-heads = c.check-heads in
     let c-leaves = c.before.before.leaves in
     let p1 = c.before.before.before.before in
     let c-walk-leaves = p1.walk-leaves in
     let c-args = p1.before.before.args in
-    let w = walked-fine c-walk-leaves.ensures c-leaves.given.1 in rw (row-passes _ 7 0 (get_or c-args.graph.now 2 0) w.1 (omega arith) (omega arith)) c-check-heads.ensures
+    let w = walked_fine c-walk-leaves.ensures c-leaves.given.1 in rw (row_passes _ 7 0 (get_or c-args.graph.now 2 0) w.1 (omega arith) (omega arith)) c-check-heads.ensures
 
 pub check-leaves-spec : {M : Type 1} → statement M
 check-leaves-spec =

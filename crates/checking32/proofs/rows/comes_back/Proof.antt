@@ -1,8 +1,8 @@
 -- Written by tools/widen from crates/checking/proofs/rows/comes_back/Proof.antt: edit that one.
 use mathlib.Core.Path.{sym}
 use native.Mathlib.Omega.{arith}
-use Rattle.checking.proofs.FollowLaws.{Toward, toward-first, toward-end, toward-back, toward-next}
-use Rattle.graph.proofs.DecodeLaws.{next-of, link-within}
+use Rattle.checking.proofs.FollowLaws.{Toward, toward_first, toward_end, toward_back, toward_next}
+use Rattle.graph.proofs.DecodeLaws.{next_of_lem, link_within}
 use borrow.Author.Rules.{rules}
 use Rattle.checking32.proofs.rows.comes_back.Statement.{statement}
 use Rattle.checking32.proofs.rows.comes_back.Tie as tie
@@ -23,14 +23,14 @@ loop-holds : tie.Need-loop-init invariant-loop decreases-loop
 loop-holds c =
     let c-links = c.links in
     let c-pre = c.before.before.before.requires in
-    toward-first c-pre.2 c-links.ensures
+    toward_first c-pre.2 c-links.ensures
 
 returns : tie.Need-returns invariant-loop decreases-loop
 returns c =
     let c-if1 = c.if1 in
     let c-loop-test = c.before.loop-test in
     let c-loop = c.before.before.loop in
-    sym (toward-back c-loop.invariant c-loop-test.true c-if1.true)
+    sym (toward_back c-loop.invariant c-loop-test.true c-if1.true)
 
 sub-left : tie.Need-overflow-sub-left invariant-loop decreases-loop
 sub-left c = search rules
@@ -41,7 +41,7 @@ next-requires c κs =
     let p1 = c.before.before.before.before in
     let c-links-from = p1.links-from in
     let c-pre = p1.before.before.requires in
-    link-within c-links-from.ensures c-pre.0.size (omega arith) c-loop.invariant.low
+    link_within c-links-from.ensures c-pre.0.size (omega arith) c-loop.invariant.low
 
 loop-less : tie.Need-loop-smaller invariant-loop decreases-loop
 loop-less c = search rules
@@ -54,13 +54,13 @@ loop-again c =
     let p1 = c.before.before.before.before.before in
     let c-links-from = p1.links-from in
     let c-pre = p1.before.before.requires in
-    toward-next c-loop.invariant c-loop-test.true (omega arith) (next-of c-links-from.ensures c-loop.l c-next.ensures (omega arith)) (c-pre.1.next_low c-loop.l (omega arith) c-loop.invariant.low)
+    toward_next c-loop.invariant c-loop-test.true (omega arith) (next_of_lem c-links-from.ensures c-loop.l c-next.ensures (omega arith)) (c-pre.1.next_low c-loop.l (omega arith) c-loop.invariant.low)
 
 returns-2 : tie.Need-returns-2 invariant-loop decreases-loop
 returns-2 c =
     let c-loop-test = c.loop-test in
     let c-loop = c.before.loop in
-    sym (toward-end c-loop.invariant c-loop-test.false)
+    sym (toward_end c-loop.invariant c-loop-test.false)
 
 pub comes-back-spec : {M : Type 1} → statement M
 comes-back-spec =

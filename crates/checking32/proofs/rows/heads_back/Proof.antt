@@ -2,15 +2,15 @@
 use native.Mathlib.Omega.{arith}
 use Prim.Native.Nat.{◌≤◌, ◌-◌}
 use Rattle.refusals.specs.Search.{Clear}
-use Rattle.refusals.specs.Refusals.{headsBack}
-use Rattle.refusals.proofs.SearchLaws.{clear_none, clear-more, first_found, first-none}
-use Rattle.refusals.proofs.RowLaws.{back-told}
+use Rattle.refusals.specs.Refusals.{heads_back}
+use Rattle.refusals.proofs.SearchLaws.{clear_none, clear_more, first_found, first_none}
+use Rattle.refusals.proofs.RowLaws.{back_told}
 use borrow.Author.Rules.{rules}
 use Rattle.checking32.proofs.rows.heads_back.Statement.{statement}
 use Rattle.checking32.proofs.rows.heads_back.Tie as tie
 
 abbrev invariant-loop : tie.invariant-loop
-invariant-loop graph end p₀ p = (p ≤ end) × Clear (headsBack graph) 0 p
+invariant-loop graph end p₀ p = (p ≤ end) × Clear (heads_back graph) 0 p
 
 abbrev decreases-loop : tie.decreases-loop
 decreases-loop graph end p₀ p = end - p
@@ -40,7 +40,7 @@ returns c =
     let p1 = c.before.before.before.before in
     let c-loop = p1.loop in
     let c-args = p1.before.before.before.args in
-    first_found c-loop.invariant.1 (omega arith) (back-told c-args.graph.now c-comes-back.ensures c-first-head.ensures c-if1.true)
+    first_found c-loop.invariant.1 (omega arith) (back_told c-args.graph.now c-comes-back.ensures c-first-head.ensures c-if1.true)
 
 add-p : tie.Need-overflow-add-p invariant-loop decreases-loop
 add-p c = search rules
@@ -56,12 +56,12 @@ loop-again c =
     let p1 = c.before.before.before.before in
     let c-loop = p1.loop in
     let c-args = p1.before.before.before.args in
-    (omega arith, clear-more c-loop.invariant.1 (back-told c-args.graph.now c-comes-back.ensures c-first-head.ensures c-if1.false))
+    (omega arith, clear_more c-loop.invariant.1 (back_told c-args.graph.now c-comes-back.ensures c-first-head.ensures c-if1.false))
 
 returns-2 : tie.Need-returns-2 invariant-loop decreases-loop
 returns-2 c =
     let c-loop = c.before.loop in
-    first-none c-loop.invariant.1 (omega arith)
+    first_none c-loop.invariant.1 (omega arith)
 
 pub heads-back-spec : {M : Type 1} → statement M
 heads-back-spec =

@@ -2,15 +2,15 @@
 use native.Mathlib.Omega.{arith}
 use Prim.Native.Nat.{◌≤◌, ◌-◌}
 use Rattle.refusals.specs.Search.{Clear}
-use Rattle.refusals.specs.Refusals.{leavesBack}
-use Rattle.refusals.proofs.SearchLaws.{clear_none, clear-more, first_found, first-none}
-use Rattle.refusals.proofs.RowLaws.{back-told}
+use Rattle.refusals.specs.Refusals.{leaves_back}
+use Rattle.refusals.proofs.SearchLaws.{clear_none, clear_more, first_found, first_none}
+use Rattle.refusals.proofs.RowLaws.{back_told}
 use borrow.Author.Rules.{rules}
 use Rattle.checking32.proofs.rows.leaves_back.Statement.{statement}
 use Rattle.checking32.proofs.rows.leaves_back.Tie as tie
 
 abbrev invariant-loop : tie.invariant-loop
-invariant-loop graph end n₀ n = (n ≤ end) × Clear (leavesBack graph) 0 n
+invariant-loop graph end n₀ n = (n ≤ end) × Clear (leaves_back graph) 0 n
 
 abbrev decreases-loop : tie.decreases-loop
 decreases-loop graph end n₀ n = end - n
@@ -40,7 +40,7 @@ returns c =
     let p1 = c.before.before.before.before in
     let c-loop = p1.loop in
     let c-args = p1.before.before.before.args in
-    first_found c-loop.invariant.1 (omega arith) (back-told c-args.graph.now c-comes-back.ensures c-first-leaf.ensures c-if1.true)
+    first_found c-loop.invariant.1 (omega arith) (back_told c-args.graph.now c-comes-back.ensures c-first-leaf.ensures c-if1.true)
 
 add-n : tie.Need-overflow-add-n invariant-loop decreases-loop
 add-n c = search rules
@@ -56,12 +56,12 @@ loop-again c =
     let p1 = c.before.before.before.before in
     let c-loop = p1.loop in
     let c-args = p1.before.before.before.args in
-    (omega arith, clear-more c-loop.invariant.1 (back-told c-args.graph.now c-comes-back.ensures c-first-leaf.ensures c-if1.false))
+    (omega arith, clear_more c-loop.invariant.1 (back_told c-args.graph.now c-comes-back.ensures c-first-leaf.ensures c-if1.false))
 
 returns-2 : tie.Need-returns-2 invariant-loop decreases-loop
 returns-2 c =
     let c-loop = c.before.loop in
-    first-none c-loop.invariant.1 (omega arith)
+    first_none c-loop.invariant.1 (omega arith)
 
 pub leaves-back-spec : {M : Type 1} → statement M
 leaves-back-spec =

@@ -3,24 +3,24 @@ use native.Mathlib.Omega.{arith}
 use native.Mathlib.Nat.{le_trans}
 use Prim.Native.Nat.{◌≤◌, ◌-◌}
 use lib.ListN.{length, get_or}
-use Rattle.theory.specs.Words.{chain, theoryOf}
+use Rattle.theory.specs.Words.{chain, theory_of}
 use Rattle.theory.specs.Accepted.{edition2}
-use Rattle.theory.proofs.ChainLaws.{once_link, chain-falls, chain-few}
-use Rattle.graph.specs.Layout.{headLink}
-use Rattle.checking.proofs.FollowLaws.{Between, Along, between_none, between-all, along-first, along-wrong, along-next, along-end, along-few}
-use Rattle.graph.proofs.DecodeLaws.{value-of, next-of, link-within}
+use Rattle.theory.proofs.ChainLaws.{once_link, chain_falls, chain_few}
+use Rattle.graph.specs.Layout.{head_link}
+use Rattle.checking.proofs.FollowLaws.{Between, Along, between_none, between_all, along_first, along_wrong, along_next, along_end, along_few}
+use Rattle.graph.proofs.DecodeLaws.{value_of_lem, next_of_lem, link_within}
 use borrow.Author.Rules.{rules}
 use Rattle.checking32.proofs.rows.walk_heads.Statement.{statement}
 use Rattle.checking32.proofs.rows.walk_heads.Tie as tie
 
 abbrev invariant-loop : tie.invariant-loop
-invariant-loop graph end atoms from entries₀ p l₀ entries l = Along graph (λ p. get_or graph 1 0) (headLink graph) p entries l
+invariant-loop graph end atoms from entries₀ p l₀ entries l = Along graph (λ p. get_or graph 1 0) (head_link graph) p entries l
 
 abbrev decreases-loop : tie.decreases-loop
 decreases-loop graph end atoms from entries₀ p l₀ entries l = length (chain graph l)
 
 abbrev invariant-producers : tie.invariant-producers
-invariant-producers graph end atoms from entries₀ p₀ entries p = (p ≤ end) × Between graph (λ p. get_or graph 1 0) (headLink graph) p entries
+invariant-producers graph end atoms from entries₀ p₀ entries p = (p ≤ end) × Between graph (λ p. get_or graph 1 0) (head_link graph) p entries
 
 abbrev decreases-producers : tie.decreases-producers
 decreases-producers graph end atoms from entries₀ p₀ entries p = end - p
@@ -46,7 +46,7 @@ loop-holds c =
     let c-producers = c.before.before.producers in
     let p1 = c.before.before.before.before.before.before.before in
     let c-pre = p1.requires in
-    rw c-first-head.ensures (along-first c-producers.invariant.1 (c-pre.1.head-chain _ (omega arith)))
+    rw c-first-head.ensures (along_first c-producers.invariant.1 (c-pre.1.head_chain _ (omega arith)))
 
 value-requires : tie.Need-value-requires invariant-loop decreases-loop invariant-producers decreases-producers
 value-requires c κs =
@@ -55,7 +55,7 @@ value-requires c κs =
     let c-links-from = p1.links-from in
     let p2 = p1.before.before.before.before in
     let c-pre = p2.requires in
-    link-within c-links-from.ensures c-pre.0.size (omega arith) (once_link _ c-loop.invariant.once)
+    link_within c-links-from.ensures c-pre.0.size (omega arith) (once_link _ c-loop.invariant.once)
 
 add-entries : tie.Need-overflow-add-entries invariant-loop decreases-loop invariant-producers decreases-producers
 add-entries c =
@@ -63,7 +63,7 @@ add-entries c =
     let c-loop = c.before.before.before.loop in
     let p1 = c.before.before.before.before.before.before.before.before.before.before.before in
     let c-pre = p1.requires in
-    omega (arith, along-few c-loop.invariant c-loop-test.true edition2.links (λ m. le_trans (chain-few _ m) c-pre.0.links-few))
+    omega (arith, along_few c-loop.invariant c-loop-test.true edition2.links (λ m. le_trans (chain_few _ m) c-pre.0.links_few))
 
 next-requires : tie.Need-next-requires invariant-loop decreases-loop invariant-producers decreases-producers
 next-requires c κs =
@@ -72,7 +72,7 @@ next-requires c κs =
     let c-links-from = p1.links-from in
     let p2 = p1.before.before.before.before in
     let c-pre = p2.requires in
-    link-within c-links-from.ensures c-pre.0.size (omega arith) (once_link _ c-loop.invariant.once)
+    link_within c-links-from.ensures c-pre.0.size (omega arith) (once_link _ c-loop.invariant.once)
 
 loop-less : tie.Need-loop-smaller invariant-loop decreases-loop invariant-producers decreases-producers
 loop-less c =
@@ -82,7 +82,7 @@ loop-less c =
     let c-loop = p1.loop in
     let p2 = p1.before.before.before.before in
     let c-links-from = p2.links-from in
-    rw (next-of c-links-from.ensures c-loop.l c-next.ensures (omega arith)) (chain-falls _ c-loop.invariant.once c-loop-test.true)
+    rw (next_of_lem c-links-from.ensures c-loop.l c-next.ensures (omega arith)) (chain_falls _ c-loop.invariant.once c-loop-test.true)
 
 loop-again : tie.Need-loop-preserved invariant-loop decreases-loop invariant-producers decreases-producers
 loop-again c =
@@ -93,7 +93,7 @@ loop-again c =
     let c-loop = p1.loop in
     let p2 = p1.before.before.before.before in
     let c-links-from = p2.links-from in
-    rw (next-of c-links-from.ensures c-loop.l c-next.ensures (omega arith)) (along-next c-loop.invariant c-loop-test.true (value-of c-links-from.ensures c-loop.l c-value.ensures (omega arith)) (omega arith))
+    rw (next_of_lem c-links-from.ensures c-loop.l c-next.ensures (omega arith)) (along_next c-loop.invariant c-loop-test.true (value_of_lem c-links-from.ensures c-loop.l c-value.ensures (omega arith)) (omega arith))
 
 add-p : tie.Need-overflow-add-p invariant-loop decreases-loop invariant-producers decreases-producers
 add-p c = search rules
@@ -107,13 +107,13 @@ producers-again c =
     let c-loop = c.before.loop in
     let p1 = c.before.before.before.before in
     let c-producers = p1.producers in
-    (omega arith, along-end c-loop.invariant c-producers.invariant.1 c-loop-test.false)
+    (omega arith, along_end c-loop.invariant c-producers.invariant.1 c-loop-test.false)
 
 returns : tie.Need-returns invariant-loop decreases-loop invariant-producers decreases-producers
-unfolding theoryOf
+unfolding theory_of
 returns c =
     let c-producers = c.before.producers in
-    between-all c-producers.invariant.1 (omega arith)
+    between_all c-producers.invariant.1 (omega arith)
 
 returns-2 : tie.Need-returns-2 invariant-loop decreases-loop invariant-producers decreases-producers
 returns-2 c =
@@ -123,7 +123,7 @@ returns-2 c =
     let p1 = c.before.before.before.before.before.before in
     let c-producers = p1.producers in
     let c-links-from = p1.before.links-from in
-    along-wrong c-loop.invariant c-loop-test.true (value-of c-links-from.ensures c-loop.l c-value.ensures (omega arith)) (omega arith) c-producers.invariant.1 (omega arith)
+    along_wrong c-loop.invariant c-loop-test.true (value_of_lem c-links-from.ensures c-loop.l c-value.ensures (omega arith)) (omega arith) c-producers.invariant.1 (omega arith)
 
 pub walk-heads-spec : {M : Type 1} → statement M
 walk-heads-spec =

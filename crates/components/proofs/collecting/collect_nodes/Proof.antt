@@ -2,11 +2,11 @@ use Prim.Native.Nat.{◌≤◌, ◌-◌}
 use native.Mathlib.Omega.{arith}
 use lib.Seq.{slice}
 use Rattle.theory.specs.Drive.{Drives}
-use Rattle.theory.proofs.DriveLaws.{drives-none}
-use Rattle.area.specs.Views.{asVertices}
+use Rattle.theory.proofs.DriveLaws.{drives_none}
+use Rattle.area.specs.Views.{as_vertices}
 use Rattle.components.specs.Gathering.{Gathering}
-use Rattle.events.proofs.TurnLaws.{nodes-next, nodes-more, nodes-done}
-use Rattle.components.proofs.CollectLaws.{collect-ready, tables-long}
+use Rattle.events.proofs.TurnLaws.{nodes_next, nodes_more, nodes_done}
+use Rattle.components.proofs.CollectLaws.{collect_ready, tables_long}
 use borrow.Author.Rules.{rules}
 use Rattle.components.proofs.collecting.collect_nodes.Statement.{statement}
 use Rattle.components.proofs.collecting.collect_nodes.Tie as tie
@@ -16,7 +16,7 @@ use Rattle.components.proofs.collecting.collect.Reads as collect-reads
 use Rattle.graph.proofs.at.Reads as at_reads
 
 abbrev invariant-loop : tie.invariant-loop
-invariant-loop work₀ b from to tail t₀ i₀ work t i = (i ≤ to) × Drives (Gathering 65536 b) b.states work₀ tail (asVertices b (slice from to work₀)) work t (asVertices b (slice i to work₀))
+invariant-loop work₀ b from to tail t₀ i₀ work t i = (i ≤ to) × Drives (Gathering 65536 b) b.states work₀ tail (as_vertices b (slice from to work₀)) work t (as_vertices b (slice i to work₀))
 
 abbrev decreases-loop : tie.decreases-loop
 decreases-loop work₀ b from to tail t₀ i₀ work t i = to - i
@@ -25,14 +25,14 @@ loop-holds : tie.Need-loop-init invariant-loop decreases-loop
 loop-holds c =
     let c-pre = c.before.requires in
     let c-args = c.before.args in
-    (c-pre.0.0, drives-none (Gathering 65536 c-args.b))
+    (c-pre.0.0, drives_none (Gathering 65536 c-args.b))
 
 at-requires : tie.Need-at-requires invariant-loop decreases-loop
 at-requires c κs =
     let c-loop = c.before.before.before.loop in
     let p1 = c.before.before.before.before.before in
     let c-pre = p1.requires in
-    let r = tables-long c-pre.1 in let s = c-loop.invariant.1.size in omega arith
+    let r = tables_long c-pre.1 in let s = c-loop.invariant.1.size in omega arith
 
 add-collect : tie.Need-overflow-add-collect invariant-loop decreases-loop
 add-collect c =
@@ -42,7 +42,7 @@ add-collect c =
     let c-loop = p1.before.loop in
     let c-args = p1.before.before.before.args in
     let c-pre = p1.before.before.before.requires in
-    let f = nodes-next c-args.b c-loop.i c-args.to c-loop.invariant.1 (tables-long c-pre.1) c-pre.0.1 c-loop-test.true c-at.ensures.0 c-pre.1 in let l = (collect-ready f).low in omega arith
+    let f = nodes_next c-args.b c-loop.i c-args.to c-loop.invariant.1 (tables_long c-pre.1) c-pre.0.1 c-loop-test.true c-at.ensures.0 c-pre.1 in let l = (collect_ready f).low in omega arith
 
 collect-requires : tie.Need-collect-requires invariant-loop decreases-loop
 collect-requires c κs =
@@ -52,7 +52,7 @@ collect-requires c κs =
     let c-loop = p1.before.loop in
     let c-args = p1.before.before.before.args in
     let c-pre = p1.before.before.before.requires in
-    nodes-next c-args.b c-loop.i c-args.to c-loop.invariant.1 (tables-long c-pre.1) c-pre.0.1 c-loop-test.true c-at.ensures.0 c-pre.1
+    nodes_next c-args.b c-loop.i c-args.to c-loop.invariant.1 (tables_long c-pre.1) c-pre.0.1 c-loop-test.true c-at.ensures.0 c-pre.1
 
 add-i : tie.Need-overflow-add-i invariant-loop decreases-loop
 add-i c = search rules
@@ -70,7 +70,7 @@ loop-again c =
     let c-loop = p2.loop in
     let c-args = p2.before.before.args in
     let c-pre = p2.before.before.requires in
-    (omega arith, nodes-more c-args.b c-loop.i c-args.to c-loop.invariant.1 (tables-long c-pre.1) c-pre.0.1 c-loop-test.true c-at.ensures.0 c-collect.ensures)
+    (omega arith, nodes_more c-args.b c-loop.i c-args.to c-loop.invariant.1 (tables_long c-pre.1) c-pre.0.1 c-loop-test.true c-at.ensures.0 c-collect.ensures)
 
 same_length : tie.Need-same-length invariant-loop decreases-loop
 same_length c = search rules
@@ -80,7 +80,7 @@ returns c =
     let c-loop-test = c.loop-test in
     let c-loop = c.before.loop in
     let c-args = c.before.before.before.args in
-    nodes-done c-args.b c-loop.i c-args.to c-loop.invariant.1 c-loop-test.false c-loop.invariant.0
+    nodes_done c-args.b c-loop.i c-args.to c-loop.invariant.1 c-loop-test.false c-loop.invariant.0
 
 pub collect-nodes-spec : {M : Type 1} → statement M
 collect-nodes-spec =

@@ -2,7 +2,7 @@
 use mathlib.Core.Path.{sym, ◌∙◌}
 use native.Mathlib.Omega.{arith}
 use lib.ListN.{length-set}
-use Rattle.components.proofs.CollectLaws.{collect-ready, collect-room, collect-fresh, collect-met}
+use Rattle.components.proofs.CollectLaws.{collect_ready, collect_room, collect_fresh, collect_met}
 use borrow.Author.Rules.{rules}
 use Rattle.components32.proofs.collecting.collect.Statement.{statement}
 use Rattle.components32.proofs.collecting.collect.Tie as tie
@@ -14,12 +14,12 @@ use Rattle.graph32.proofs.at.Reads as at_reads
 add-m : tie.Need-overflow-add-m
 add-m c =
     let c-pre = c.before.before.requires in
-    let r = collect-ready (c-pre) in let l = r.laid in omega arith
+    let r = collect_ready (c-pre) in let l = r.laid in omega arith
 
 at-requires : tie.Need-at-requires
 at-requires c κs =
     let c-pre = c.before.before.before.requires in
-    let r = collect-ready (c-pre) in let l = r.laid in omega arith
+    let r = collect_ready (c-pre) in let l = r.laid in omega arith
 
 same_length : tie.Need-same-length
 same_length c = search rules
@@ -28,13 +28,13 @@ returns : tie.Need-returns
 returns c =
     let c-if1 = c.if1 in
     let c-at = c.before.at in
-    collect-met (λ q. c-if1.true (c-at.ensures.0 ∙ q))
+    collect_met (λ q. c-if1.true (c-at.ensures.0 ∙ q))
 
 put-requires : tie.Need-put-requires
 put-requires c κs =
     let p1 = c.before.before.before.before in
     let c-pre = p1.before.before.requires in
-    let r = collect-ready (c-pre) in let l = r.laid in (omega arith, omega arith)
+    let r = collect_ready (c-pre) in let l = r.laid in (omega arith, omega arith)
 
 add-put : tie.Need-overflow-add-put
 add-put c =
@@ -43,7 +43,7 @@ add-put c =
     let c-at = p1.before.at in
     let p2 = p1.before.before.before.before.before in
     let c-pre = p2.requires in
-    let r = collect-ready (c-pre) in let l = r.laid in let k = collect-room (c-pre) (sym c-at.ensures.0 ∙ c-if1.false) in omega arith
+    let r = collect_ready (c-pre) in let l = r.laid in let k = collect_room (c-pre) (sym c-at.ensures.0 ∙ c-if1.false) in omega arith
 
 put-requires-2 : tie.Need-put-requires-2
 put-requires-2 c κs =
@@ -53,7 +53,7 @@ put-requires-2 c κs =
     let c-at = p1.before.before.before.at in
     let p2 = p1.before.before.before.before.before in
     let c-pre = p2.before.before.requires in
-    let r = collect-ready (c-pre) in let l = r.laid in let k = collect-room (c-pre) (sym c-at.ensures.0 ∙ c-if1.false) in (rw (c-put.ensures, length-set) (omega arith), omega arith)
+    let r = collect_ready (c-pre) in let l = r.laid in let k = collect_room (c-pre) (sym c-at.ensures.0 ∙ c-if1.false) in (rw (c-put.ensures, length-set) (omega arith), omega arith)
 
 add-result : tie.Need-overflow-add-result
 add-result c =
@@ -62,7 +62,7 @@ add-result c =
     let c-at = p1.before.at in
     let p2 = p1.before.before.before.before.before in
     let c-pre = p2.requires in
-    let r = collect-ready (c-pre) in let l = r.laid in let k = collect-room (c-pre) (sym c-at.ensures.0 ∙ c-if1.false) in omega arith
+    let r = collect_ready (c-pre) in let l = r.laid in let k = collect_room (c-pre) (sym c-at.ensures.0 ∙ c-if1.false) in omega arith
 
 same-length-2 : tie.Need-same-length-2
 same-length-2 c = search rules
@@ -76,7 +76,7 @@ returns-2 c =
     let c-at = p1.before.before.before.at in
     let p2 = p1.before.before.before.before.before in
     let c-pre = p2.before.before.requires in
-    rw (c-put2.ensures, c-put.ensures) (collect-fresh (c-pre) (sym c-at.ensures.0 ∙ c-if1.false))
+    rw (c-put2.ensures, c-put.ensures) (collect_fresh (c-pre) (sym c-at.ensures.0 ∙ c-if1.false))
 
 pub collect-spec : {M : Type 1} → statement M
 collect-spec =

@@ -1,7 +1,7 @@
 -- Written by tools/widen from crates/components/proofs/collecting/collect_vertex/Proof.antt: edit that one.
 use Prim.Native.Nat.{◌-◌}
 use native.Mathlib.Omega.{arith}
-use Rattle.events.proofs.VertexLaws.{atom-spanned, atom-row, parents-spanned, body-spanned, body-named, parents-next, later, body-next, node_done}
+use Rattle.events.proofs.VertexLaws.{atom_spanned, atom_row, parents_spanned, body_spanned, body_named, parents_next, later, body_next, node_done}
 use borrow.Author.Rules.{rules}
 use Rattle.components32.proofs.collecting.collect_vertex.Statement.{statement}
 use Rattle.components32.proofs.collecting.collect_vertex.Tie as tie
@@ -16,20 +16,20 @@ collect-row-requires c κs =
     let p1 = c.before.before.before.before.before in
     let c-pre = p1.requires in
     let c-args = p1.args in
-    (atom-spanned c-pre.0.1 c-pre.0.3 c-args.v c-if1.true, rw (atom-row c-pre.0.1 c-pre.0.3 c-args.v c-if1.true) at c-pre.1)
+    (atom_spanned c-pre.0.1 c-pre.0.3 c-args.v c-if1.true, rw (atom_row c-pre.0.1 c-pre.0.3 c-args.v c-if1.true) at c-pre.1)
 
 same_length : tie.Need-same-length
 same_length c = search rules
 
 returns : tie.Need-returns
 returns c =
-    let c-collect-row = c.before.before.collect-row in
+    let c-collect-row = c.before.before.collect_row in
     let p1 = c.before.before.before.before in
     let c-if1 = p1.if1 in
     let p2 = p1.before.before.before.before in
     let c-pre = p2.requires in
     let c-args = p2.args in
-    rw (atom-row c-pre.0.1 c-pre.0.3 c-args.v c-if1.true) c-collect-row.ensures
+    rw (atom_row c-pre.0.1 c-pre.0.3 c-args.v c-if1.true) c-collect-row.ensures
 
 collect-row-requires-2 : tie.Need-collect-row-requires-2
 collect-row-requires-2 c κs =
@@ -37,7 +37,7 @@ collect-row-requires-2 c κs =
     let p1 = c.before.before.before.before.before.before in
     let c-pre = p1.requires in
     let c-args = p1.args in
-    let k = c-pre.0.2 in let l = c-if1.false in (parents-spanned c-pre.0.1 c-pre.0.3 (c-args.v - c-args.b.atoms) (omega arith), parents-next c-pre.0.1 c-pre.0.3 l k c-pre.1)
+    let k = c-pre.0.2 in let l = c-if1.false in (parents_spanned c-pre.0.1 c-pre.0.3 (c-args.v - c-args.b.atoms) (omega arith), parents_next c-pre.0.1 c-pre.0.3 l k c-pre.1)
 
 collect-body-requires : tie.Need-collect-body-requires
 collect-body-requires c κs =
@@ -48,7 +48,7 @@ collect-body-requires c κs =
     let c-pre = p2.requires in
     let c-args = p2.args in
     let k = c-pre.0.2 in let l = c-if1.false in let t = later c-pre.0.1 c-pre.0.3 l k c-pre.1 c-collect-row2.ensures in
-    ((c-pre.0.0, body-spanned c-pre.0.1 t (c-args.v - c-args.b.atoms) (omega arith)), (body-named c-pre.0.1 t (c-args.v - c-args.b.atoms) (omega arith), body-next c-pre.0.1 c-pre.0.3 l k c-pre.1 c-collect-row2.ensures))
+    ((c-pre.0.0, body_spanned c-pre.0.1 t (c-args.v - c-args.b.atoms) (omega arith)), (body_named c-pre.0.1 t (c-args.v - c-args.b.atoms) (omega arith), body_next c-pre.0.1 c-pre.0.3 l k c-pre.1 c-collect-row2.ensures))
 
 same-length-2 : tie.Need-same-length-2
 same-length-2 c = search rules
