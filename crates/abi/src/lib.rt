@@ -1,5 +1,7 @@
 // The calls for C and Rust to link: numbers and slices alone. A slice crosses as a pointer and a length. Here are those on graphs of edition 1; wide.rt has the
 // same four on graphs of edition 2, and length.rt how long a work area edition 2 asks for.
+#![tactic(auto)]
+
 mod length;
 mod wide;
 

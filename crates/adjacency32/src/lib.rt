@@ -1,6 +1,8 @@
 // Written by tools/widen from crates/adjacency/src/lib.rt: edit that one.
 // Incidence rows by counting, summing and filling. A table is rows + 1 offsets and then the entries, in a lent part of the work area; what
 // stood there before has no effect.
+#![tactic(auto)]
+
 ghost use Rattle.std.specs.Prelude.{◌≡◌, [], ◌∷◌, ◌+◌, ◌<◌, ◌≤◌, length};
 ghost use Rattle.theory.specs.Words.{chain, theory_of};
 ghost use Rattle.theory.specs.Links.{MeetsOnce};

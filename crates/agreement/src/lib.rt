@@ -1,4 +1,6 @@
 // Whether a call answers, and leaves, what is recorded of it. The call is made here, over output and work area that are soiled first; nothing is read or written.
+#![tactic(auto)]
+
 mod memory;
 
 ghost use Rattle.std.specs.Prelude.{◌≡◌, true, ◌↔◌, length};

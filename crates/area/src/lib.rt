@@ -1,4 +1,6 @@
 // The work area's words: how many, storing, clearing, and where the regions begin. A word is read by `graph::at`.
+#![tactic(auto)]
+
 pub mod length;
 
 ghost use Rattle.std.specs.Prelude.{◌≡◌, true, ◌<◌, ◌≤◌, ◌^◌, length, set, replicate};

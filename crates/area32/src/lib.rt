@@ -1,5 +1,7 @@
 // Written by tools/widen from crates/area/src/lib.rt: edit that one.
 // The work area's words: how many, storing, clearing, and where the regions begin. A word is read by `graph32::at`.
+#![tactic(auto)]
+
 pub mod length;
 
 ghost use Rattle.std.specs.Prelude.{◌≡◌, true, ◌<◌, length, set, replicate};

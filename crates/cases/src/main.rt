@@ -1,4 +1,6 @@
 // Document 01's cases C1 to C12 through `report`, as the program reads them: the graph's words, the atom mask, the node mask.
+#![tactic(auto)]
+
 use libc::STDOUT_FILENO;
 
 fn show(input: &[u8]) {

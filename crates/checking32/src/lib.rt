@@ -1,5 +1,7 @@
 // Written by tools/widen from crates/checking/src/lib.rt: edit that one.
 // The graph check (document 01, "Where a call is turned away"; document 02, request 5). Rows 1 to 6 are in crate refusals, the others in rows.rt.
+#![tactic(auto)]
+
 mod rows;
 
 ghost use Rattle.std.specs.Prelude.{◌≡◌};

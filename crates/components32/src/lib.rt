@@ -1,6 +1,8 @@
 // Written by tools/widen from crates/components/src/lib.rt: edit that one.
 // Components and cyclic atoms, by the second walk of Sharir (1981): along the edges, latest finished first, each search collecting one component.
 // An atom alone in its component is not cyclic. The rows of the members are gone through in collecting.rt.
+#![tactic(auto)]
+
 mod collecting;
 
 ghost use Rattle.std.specs.Prelude.{◌≡◌, ◌+◌, ◌<◌, ◌≤◌, length};

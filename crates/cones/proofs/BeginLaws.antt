@@ -7,7 +7,7 @@ use mathlib.Core.List.{List, [], ◌∷◌, ◌++◌}
 use Prim.Native.Nat.{ℕ, suc, ◌+◌, ◌-◌, ◌≤◌, ◌<◌, zero-le}
 use native.Mathlib.Numerals.{add-one}
 use native.Mathlib.Omega.{arith}
-use borrow.Author.Tests.{eq-eqb, ne_eqb, not_true, not_false}
+use borrow.Author.Tests.{eq-eqb, ne_eqb, not-true, not-false}
 use lib.Dec.{eqb}
 use lib.ListN.{length, get_or, set, take, drop, length-set}
 use lib.Seq.{get_or-set_other, get_or-drop, take-set-le, drop-set-lt}
@@ -95,12 +95,12 @@ module _ {lim : ℕ} {th : Theory} {m : Bool} {b : Bases} {w : List ℕ} {p : �
   }
     where
       none : wanted_by th m p ≡ false
-      none = sym is ∙ not_true r no'
+      none = sym is ∙ not-true r no'
 
   -- k: its body's number from 1, or 0
   module _ (yes' : not r ≡ false) {k : ℕ} (e : th.body p ≡ k) where
     taken : Is (wanted_by th m p)
-    taken = sym is ∙ not_false r yes'
+    taken = sym is ∙ not-false r yes'
 
     -- it has a body, which comes next
     module _ (ok : WellFormed th) (some : 0 < k) where

@@ -1,6 +1,8 @@
 // Written by tools/widen from crates/cones/src/lib.rt: edit that one.
 // The two cones of preparation (document 01, "Preparation"): the bodies of the wanted producers, and the leaves of every And and Or reached. The
 // search marks a node when it finds it, and the list of the nodes found is its queue.
+#![tactic(auto)]
+
 ghost use Rattle.std.specs.Prelude.{◌≡◌, true, ◌&&◌, [], ◌∷◌, ℕ, ◌+◌, ◌≤◌, ◌<◌, length};
 ghost use Rattle.theory.specs.Sets.{Mem, any};
 ghost use Rattle.theory.specs.Theory.{absorbed};

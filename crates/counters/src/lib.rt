@@ -1,4 +1,6 @@
 // Checked counts in lent words. Where the Rust panics, the callers show that a count stays below a word's limit.
+#![tactic(auto)]
+
 ghost use Rattle.std.specs.Prelude.{◌≡◌, ◌+◌, ◌<◌, length, get_or, set};
 
 pub fn get(counts: &[u16], i: usize) -> usize

@@ -1,5 +1,7 @@
 // Written by tools/widen from crates/counters/src/lib.rt: edit that one.
 // Checked counts in lent words. Where the Rust panics, the callers show that a count stays below a word's limit.
+#![tactic(auto)]
+
 ghost use Rattle.std.specs.Prelude.{◌≡◌, ◌+◌, ◌<◌, length, get_or, set};
 
 pub fn get(counts: &[u32], i: usize) -> usize

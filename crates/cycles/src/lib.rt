@@ -1,5 +1,7 @@
 // The loop test: whether there is a closed walk over all atoms and all nodes, by counting how many entries each vertex waits for
 // (Kahn 1962). Atom a is vertex a, and node n is vertex atoms + n.
+#![tactic(auto)]
+
 ghost use Rattle.std.specs.Prelude.{◌≡◌, true, ◌↔◌, [], ◌+◌, ◌<◌, ◌≤◌, length};
 ghost use Rattle.theory.specs.Sets.{everyone};
 ghost use Rattle.theory.specs.Words.{theory_of};

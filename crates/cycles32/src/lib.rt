@@ -1,6 +1,8 @@
 // Written by tools/widen from crates/cycles/src/lib.rt: edit that one.
 // The loop test: whether there is a closed walk over all atoms and all nodes, by counting how many entries each vertex waits for
 // (Kahn 1962). Atom a is vertex a, and node n is vertex atoms + n.
+#![tactic(auto)]
+
 ghost use Rattle.std.specs.Prelude.{◌≡◌, true, ◌↔◌, [], ◌+◌, ◌<◌, ◌≤◌, length};
 ghost use Rattle.theory.specs.Sets.{everyone};
 ghost use Rattle.theory.specs.Words.{theory_of};

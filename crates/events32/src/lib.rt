@@ -1,5 +1,7 @@
 // Written by tools/widen from crates/events/src/lib.rt: edit that one.
 // The worklist of the pass: every row of a vertex that is found is followed once, and each entry of it settled, one thing fewer to wait for.
+#![tactic(auto)]
+
 ghost use Rattle.std.specs.Prelude.{[], ◌∷◌, ℕ, ◌+◌, ◌<◌, ◌≤◌, length, get_or};
 ghost use Rattle.std.proofs.Math.Seq.{slice};
 ghost use Rattle.theory.specs.Words.{theory_of};

@@ -1,6 +1,8 @@
 // Written by tools/widen from crates/finishing/src/lib.rt: edit that one.
 // The first walk of Sharir (1981): from a vertex to its predecessors, with a stack and a cursor a vertex, which lists the vertices of preparation
 // in a finishing order. A vertex is marked 1 until it is met and 2 from then on; what is marked 0 is outside.
+#![tactic(auto)]
+
 ghost use Rattle.std.specs.Prelude.{◌≡◌, ◌≢◌, true, false, ℕ, ◌+◌, ◌-◌, ◌<◌, ◌≤◌, eqb, length, get_or, set};
 ghost use Rattle.theory.specs.Words.{theory_of};
 ghost use Rattle.theory.specs.Edges.{vertices};

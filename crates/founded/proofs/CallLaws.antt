@@ -5,7 +5,7 @@ use mathlib.Core.Logic.{◌≢◌}
 use mathlib.Core.Bool.{Bool, true, false, cond}
 use mathlib.Core.List.{List, [], ◌∷◌}
 use Prim.Native.Nat.{ℕ}
-use borrow.Author.Tests.{eq-eqb, ne_eqb, eqb-true, not_false}
+use borrow.Author.Tests.{eq-eqb, ne_eqb, eqb-true, not-false}
 use lib.Dec.{eqb}
 use lib.ListN.{length, get_or}
 use Rattle.theory.specs.Sets.{filled}
@@ -64,7 +64,7 @@ pub mask_tested : {r t : Bool} {count k : ℕ} (words : ℕ) → r ≡ bad_mask 
 mask_tested words e q h = rw (← q) (sym e ∙ h)
 
 pub mask_fits : (count words : ℕ) → bad_mask count words ≡ false → words ≡ words_of count
-mask_fits count words e = eqb-true words (words_of count) (not_false _ e)
+mask_fits count words e = eqb-true words (words_of count) (not-false _ e)
 
 -- the output is one of the three
 pub output_fits : (ws : List ℕ) (n a o : ℕ) → bad_lengths ws n a o ≡ false → bad_mask (get_or ws 1 0) o ≡ false

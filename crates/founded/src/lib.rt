@@ -1,4 +1,6 @@
 // Preparation and the pass (document 01, "Preparation" and "Pass"): the two public calls.
+#![tactic(auto)]
+
 ghost use Rattle.std.specs.Prelude.{◌≡◌, false, ◌+◌, ◌≤◌, eqb, length, get_or, replicate};
 ghost use Rattle.theory.specs.Words.{theory_of};
 ghost use Rattle.theory.specs.Accepted.{edition1, area_of};

@@ -1,5 +1,7 @@
 // Written by tools/widen from crates/founded/src/lib.rt: edit that one.
 // Preparation and the pass (document 01, "Preparation" and "Pass"): the two public calls.
+#![tactic(auto)]
+
 ghost use Rattle.std.specs.Prelude.{◌≡◌, false, ◌+◌, ◌≤◌, eqb, length, get_or, replicate};
 ghost use Rattle.theory.specs.Words.{theory_of};
 ghost use Rattle.theory.specs.Accepted.{edition2, area_of};

@@ -2,6 +2,8 @@
 //
 // No contract can say what is read or written; `report` has the text as a definition of the bytes. What stands past the first 26,891 bytes changes
 // nothing in it (`enough` of report/proofs/InputLaws), so that is all that is kept of a longer input.
+#![tactic(auto)]
+
 use libc::{STDIN_FILENO, STDOUT_FILENO};
 
 // Reads on, and says whether there was more.

@@ -1,4 +1,3 @@
 pub mod KindLaws
 pub mod DecodeLaws
 pub mod FollowLaws
-pub mod ReaderLaws

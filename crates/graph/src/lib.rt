@@ -1,4 +1,6 @@
 // The graph as lent words (document 01, "The graph as lent words"): the kind table, the header, the records and the reader of chains. Words are read by `at` alone, so that no other function knows how wide one is.
+#![tactic(auto)]
+
 ghost use Rattle.std.specs.Prelude.{◌≡◌, false, ◌+◌, ◌<◌, ◌≤◌, length, get_or};
 ghost use Rattle.theory.specs.Theory.{joins};
 ghost use Rattle.theory.specs.Words.{kind_of, node_at, producer_at, chain};

@@ -1,5 +1,7 @@
 // Written by tools/widen from crates/graph/src/lib.rt: edit that one.
 // The graph as lent words (document 01, "The graph as lent words"): the kind table, the header, the records and the reader of chains. Words are read by `at` alone, so that no other function knows how wide one is.
+#![tactic(auto)]
+
 ghost use Rattle.std.specs.Prelude.{◌≡◌, ◌+◌, ◌<◌, ◌≤◌, length, get_or};
 ghost use Rattle.theory.specs.Words.{node_at, producer_at, chain};
 ghost use Rattle.theory.specs.Links.{MeetsOnce};

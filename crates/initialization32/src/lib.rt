@@ -1,6 +1,8 @@
 // Written by tools/widen from crates/initialization/src/lib.rt: edit that one.
 // The start states of the pass: what each vertex waits for, and on the queue what is found at once (the Rust: `Initial`, `Scratch::initialize`, and the
 // facts of `complete`).
+#![tactic(auto)]
+
 ghost use Rattle.std.specs.Prelude.{◌≡◌, false, [], ◌∷◌, ℕ, ◌+◌, ◌<◌, ◌≤◌, length, set};
 ghost use Rattle.theory.specs.Sets.{Set, Is};
 ghost use Rattle.theory.specs.Theory.{Atom};

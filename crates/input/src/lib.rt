@@ -1,4 +1,6 @@
 // Standard input as words: how many of its bytes are the graph, and words from bytes, low byte first.
+#![tactic(auto)]
+
 ghost use Rattle.std.specs.Prelude.{◌≡◌, ◌+◌, ◌*◌, ◌/◌, ◌^◌, ◌<◌, ◌≤◌, min, length, get_or};
 ghost use Rattle.input.specs.Bytes.{little_endian, words as Bytes·words, Decoded};
 ghost use Rattle.input.specs.Input.{graph_size};

@@ -1,4 +1,6 @@
 // Masks: a set of numbers in 64-bit words, bit i % 64 of word i / 64, lowest first, for i.
+#![tactic(auto)]
+
 ghost use Rattle.std.specs.Prelude.{◌≡◌, ◌+◌, ◌*◌, ◌<◌, ◌≤◌, min, length};
 ghost use Rattle.theory.specs.Words.{bit_at};
 ghost use Rattle.mask.specs.Mask.{words_of, bits, pack, with_bit, flagged};

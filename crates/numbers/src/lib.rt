@@ -1,4 +1,6 @@
 // The number and the place of each answer.
+#![tactic(auto)]
+
 ghost use Rattle.std.specs.Prelude.{◌≡◌, ◌<◌};
 ghost use Rattle.refusals.specs.Refusals.{answer_of};
 ghost use Rattle.founded.specs.Answers.{completed_of};

@@ -1,5 +1,7 @@
 // Written by tools/widen from crates/preparation/src/lib.rt: edit that one.
 // Preparation and the pass on the work area: row tables, body cone, cyclic atoms; then the cyclic cone, start states and the worklist.
+#![tactic(auto)]
+
 ghost use Rattle.std.specs.Prelude.{length};
 ghost use Rattle.theory.specs.Words.{bit_at};
 ghost use Rattle.theory.specs.Accepted.{Accepted, edition2};

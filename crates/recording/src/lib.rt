@@ -1,4 +1,6 @@
 // The words of a recording on standard input, 16 bits each, low byte first, read through a lent block.
+#![tactic(auto)]
+
 
 ghost use Rattle.std.specs.Prelude.{◌≡◌, true, false, cond, ◌+◌, ◌*◌, ◌/◌, ◌%◌, min, eqb};
 ghost use Rattle.recording.specs.Reading.{word_at, Keeps};

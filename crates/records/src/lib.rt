@@ -1,5 +1,7 @@
 // What is recorded of a call or of a run of the program (crates/replay/README.md has the format), read into values. Where the recording is malformed the
 // reader that comes back is bad, and the lengths fit their rooms all the same.
+#![tactic(auto)]
+
 ghost use Rattle.std.specs.Prelude.{◌≡◌, cond, ◌≤◌, eqb, length};
 ghost use Rattle.recording.specs.Reading.{Keeps};
 ghost use Rattle.records.specs.Records.{WideFits, PrepareFits, CompleteFits};

@@ -5,7 +5,7 @@ use mathlib.Core.Logic.{◌⊎◌, inl, inr, ◌↔◌}
 use mathlib.Core.List.{List, [], ◌∷◌, ◌++◌}
 use Prim.Native.Nat.{ℕ, zero, suc, ◌+◌, ◌≤◌, ◌<◌}
 use native.Mathlib.Omega.{arith}
-use borrow.Author.Tests.{ltb-false, leb-false, eqb-true, not_false}
+use borrow.Author.Tests.{ltb-false, leb-false, eqb-true, not-false}
 use lib.Dec.{eqb, ltb, leb}
 use lib.ListN.{length, get_or}
 use Rattle.theory.specs.Sets.{Is, Mem, any}
@@ -59,7 +59,7 @@ module _ (ed : Edition) (ws : List ℕ) where
       let p2 = or_false (ltb ed.counts (get_or ws 2 0)) _ p1.1 in
       let p3 = or_false (ltb ed.counts (get_or ws 3 0)) _ p2.1 in
       record {
-        size = eqb-true (length ws) (size_of ws) (not_false _ g);
+        size = eqb-true (length ws) (size_of ws) (not-false _ g);
         atoms_few = ltb-false ed.counts (get_or ws 1 0) p1.0;
         nodes_few = ltb-false ed.counts (get_or ws 2 0) p2.0;
         producers_few = ltb-false ed.counts (get_or ws 3 0) p3.0;
@@ -88,7 +88,7 @@ record_fine kind operand first atoms links e =
       kind_low = ltb-false 7 kind p1.0;
       operand_low = λ t. leb-false atoms operand (rw t at p2.0);
       first_low = ltb-false links first p3.0;
-      leafless = λ j. eqb-true first 0 (not_false _ (rw j at p3.1));
+      leafless = λ j. eqb-true first 0 (not-false _ (rw j at p3.1));
     }
 
 pub body_fine : (body first nodes links : ℕ) → bad_body body first nodes links ≡ false → (body ≤ nodes) × (first ≤ links)

@@ -1,5 +1,7 @@
 // What the graph check answers, and its rows 1 to 6, which look at one record at a time (document 01, "Where a call is turned away"; document 02, request 5). Rows 14 and 7 to 9 and the
 // check itself are in crate checking.
+#![tactic(auto)]
+
 pub mod edition;
 
 ghost use Rattle.std.specs.Prelude.{◌≡◌, ◌+◌, ◌≤◌, length, get_or};

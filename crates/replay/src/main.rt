@@ -1,4 +1,6 @@
 // Replays the recording on standard input (README.md has its format), names the records in which something differs, and prints how many answers agree.
+#![tactic(auto)]
+
 ghost use Rattle.std.specs.Prelude.{◌≡◌, false, ◌<◌};
 
 use recording::Reader;

@@ -1,4 +1,6 @@
 // Goes through the records of a recording: every call and every run of the program in them is replayed and counted.
+#![tactic(auto)]
+
 ghost use Rattle.std.specs.Prelude.{◌≡◌, length};
 ghost use Rattle.recording.specs.Reading.{Keeps};
 

@@ -8,7 +8,7 @@ use native.Mathlib.Omega.{arith}
 use lib.Dec.{eqb}
 use lib.ListN.{length, get_or, take, drop, length-take, length-drop}
 use lib.Seq.{length-take-le}
-use borrow.Author.Tests.{eq-eqb, ne_eqb, eqb-true, eqb-false, not_false}
+use borrow.Author.Tests.{eq-eqb, ne_eqb, eqb-true, eqb-false, not-false}
 use Rattle.theory.specs.Sets.{Mem, members}
 use Rattle.theory.specs.Theory.{Theory}
 use Rattle.theory.specs.Words.{theory_of, bit_at}
@@ -137,7 +137,7 @@ pub masks_split : (graph masks : List ℕ) (r : ℕ) → graph_answer edition1 g
 unfolding bad_masks
 masks_split graph masks r e h q =
     let few = accepted_few graph e in
-    let total = eqb-true (length masks) (8 * words_of (get_or graph 1 0) + 8 * words_of (get_or graph 2 0)) (not_false _ h) in
+    let total = eqb-true (length masks) (8 * words_of (get_or graph 1 0) + 8 * words_of (get_or graph 2 0)) (not-false _ h) in
     record { atoms = q; nodes = omega arith; atoms_few = omega arith; nodes_few = omega arith }
 
 module _ {graph masks : List ℕ} {r : ℕ} (s : Split graph masks r) where

@@ -1,4 +1,6 @@
 // The program's text: from standard input's bytes to the bytes that are written (document 01, "The program").
+#![tactic(auto)]
+
 ghost use Rattle.std.specs.Prelude.{◌≡◌, false, ◌≤◌, length, get_or};
 ghost use Rattle.theory.specs.Words.{theory_of};
 ghost use Rattle.theory.specs.Accepted.{edition1};

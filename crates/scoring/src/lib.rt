@@ -1,5 +1,7 @@
 // What is recorded of a call or of a run of the program is read, compared with what it answers and leaves now, and counted: two numbers for each of
 // `check`, `needed`, `prepare`, `complete` and the program, how many agree and how many differ.
+#![tactic(auto)]
+
 ghost use Rattle.std.specs.Prelude.{◌≡◌, ◌<◌, length};
 ghost use Rattle.recording.specs.Reading.{Keeps};
 ghost use Rattle.records.specs.Records.{PrepareFits, CompleteFits};

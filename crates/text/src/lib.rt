@@ -1,4 +1,6 @@
 // Lines of text in a lent buffer, each appended where the last one ended.
+#![tactic(auto)]
+
 ghost use Rattle.std.specs.Prelude.{◌≡◌, [], ◌∷◌, ◌++◌, ◌+◌, ◌*◌, ◌<◌, ◌≤◌, length};
 ghost use Rattle.theory.specs.Sets.{members};
 ghost use Rattle.theory.specs.Words.{bit_at};

@@ -34,6 +34,7 @@ module _ (f : ℕ → ℕ) where
 
   value_at : (n x : ℕ) → Mem x (values n) → (i : ℕ) × (i < n) × (f i ≡ x)
   unfolding values
+  value_at zero x m = elim m [ ]
   value_at (suc n) x m = go (Memᴰ.cases_cons m) (λ (h : Mem x (values n)). value_at n x h)
     where
       go : (x ≡ f n) ⊎ Mem x (values n) → (Mem x (values n) → (i : ℕ) × (i < n) × (f i ≡ x)) → (i : ℕ) × (i < suc n) × (f i ≡ x)
@@ -160,8 +161,8 @@ module _ (ws : List ℕ) where
   module _ (nexts : (l : ℕ) → 0 < l → l ≤ get_or ws 4 0 → next_of ws l ≤ get_or ws 4 0) where
     pub links_inside : {l : ℕ} → l ≤ get_or ws 4 0 → (i : ℕ) → link_after ws i l ≤ get_or ws 4 0
     unfolding link_after
-    links_inside h zero = h
-    links_inside {l} h (suc i) = links_inside (go (ℕ_discrete l 0)) i
+    links_inside {l = l} h zero = h
+    links_inside {l = l} h (suc i) = links_inside {l = after ws l} (go (ℕ_discrete l 0)) i
       where
         go : Dec (l ≡ 0) → after ws l ≤ get_or ws 4 0
         go (yes e) = let k = ap (after ws) e ∙ after_end in omega arith

@@ -82,7 +82,8 @@ count_all s [] h = refl
 count_all s (x ∷ l) h = count_in_lem s x l (h x (Memᴰ.head refl)) ∙ ap suc (count_all s l (λ y m. h y (Memᴰ.tail m)))
 
 pub count_full : (s : Set) (l : List ℕ) {x : ℕ} → length l ≤ count_in s l → Mem x l → Is (s x)
-count_full s (y ∷ l) {x} h m = go (bool_cases (s y)) (Memᴰ.cases_cons m) (λ k i. count_full s l k i)
+count_full s [] {x = x} h m = elim m [ ]
+count_full s (y ∷ l) {x = x} h m = go (bool_cases (s y)) (Memᴰ.cases_cons m) (λ k i. count_full s l {x = x} k i)
   where
     go : (s y ≡ true) ⊎ (s y ≡ false) → (x ≡ y) ⊎ Mem x l → (length l ≤ count_in s l → Mem x l → Is (s x)) → Is (s x)
     go (inl p) (inl e) rest = subst (λ (z : ℕ). Is (s z)) (sym e) p
@@ -155,6 +156,7 @@ below_mem (suc b) x h = go (ℕ_discrete x b) (below_mem b x)
 
 below_low : (b x : ℕ) → Mem x (below b) → x < b
 unfolding below
+below_low zero x m = elim m [ ]
 below_low (suc b) x m = go (Memᴰ.cases_cons m) (below_low b x)
   where
     go : (x ≡ b) ⊎ Mem x (below b) → (Mem x (below b) → x < b) → x < suc b

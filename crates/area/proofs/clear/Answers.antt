@@ -1,0 +1,5 @@
+use borrow.Author.Rules.{rules}
+use Rattle.area.proofs.clear.Goals as goal
+
+pub returns : goal.returns
+returns c = c.fill.ensures

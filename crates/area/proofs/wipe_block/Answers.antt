@@ -1,0 +1,5 @@
+use borrow.Author.Rules.{rules}
+use Rattle.area.proofs.wipe_block.Goals as goal
+
+pub returns-then-blank : goal.returns-then-blank
+returns-then-blank c = c.blank.ensures c.if-blank.true

@@ -1,0 +1,7 @@
+use Rattle.graph.specs.Layout.{next_in}
+use borrow.Author.Rules.{rules}
+use Rattle.graph.proofs.next_at.Goals as goal
+
+pub returns : goal.returns
+unfolding next_in
+returns c = c.at.ensures.0

@@ -1,0 +1,6 @@
+use borrow.Author.Rules.{rules}
+use Rattle.graph.proofs.KindLaws.{table_says}
+use Rattle.graph.proofs.says.Goals as goal
+
+pub returns : goal.returns
+returns c = table_says _ _ c.requires.0 c.requires.1

@@ -1,0 +1,7 @@
+use Rattle.graph.specs.Layout.{value_in}
+use borrow.Author.Rules.{rules}
+use Rattle.graph.proofs.value_at.Goals as goal
+
+pub returns : goal.returns
+unfolding value_in
+returns c = c.at.ensures.0

@@ -1,0 +1,8 @@
+use mathlib.Core.Path.{refl}
+use Rattle.refusals.specs.Refusals.{bad_next}
+use borrow.Author.Rules.{rules}
+use Rattle.refusals.proofs.bad_next.Goals as goal
+
+pub returns : goal.returns
+unfolding bad_next
+returns c = refl
