@@ -55,6 +55,7 @@ module _ (ws : List ℕ) where
 
 pub body_keys_lem : (k : ℕ) → 0 < k → body_keys k ≡ (k - 1) ∷ []
 unfolding body_keys
+body_keys_lem zero h = elim h [ ]
 body_keys_lem (suc k) h = let e : k ≡ suc k - 1 = omega arith in ap (λ (x : ℕ). x ∷ []) e
 
 pub body_no_keys : (k : ℕ) → k ≡ 0 → body_keys k ≡ []

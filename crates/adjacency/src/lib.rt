@@ -15,7 +15,7 @@ ghost use Rattle.adjacency.specs.Building.{Building, Summed, sum_of};
 use area::Bases;
 
 // Nodes per atom, parents per node, producers per head, producers per body.
-#[derive(Drop)]
+#[derive(Clone, Copy)]
 pub enum Table {
     AtomNodes,
     Parents,

@@ -70,7 +70,7 @@ pub fn wipe(words: &mut [u16])
 
 // A graph's counts, at most so many leaf entries and head entries, and where each region begins. A vertex has a pair of words: its mark (`states`)
 // and its count (`dependencies`).
-#[derive(Drop)]
+#[derive(Clone, Copy)]
 pub struct Bases {
     pub atoms: usize,
     pub nodes: usize,
