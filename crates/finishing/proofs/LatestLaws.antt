@@ -2,7 +2,7 @@
 use mathlib.Core.Path.{◌≡◌, sym, ap, ap₂, ◌∙◌}
 use mathlib.Core.Logic.{◌≢◌}
 use mathlib.Core.List.{List, ◌∷◌}
-use Prim.Native.Nat.{ℕ, suc, ◌+◌, ◌-◌, ◌<◌}
+use Prim.Native.Nat.{ℕ, zero, suc, ◌+◌, ◌-◌, ◌<◌}
 use native.Mathlib.Omega.{arith}
 use native.Mathlib.Numerals.{add-one}
 use lib.ListN.{length, get_or, set, drop, length-drop}
@@ -16,6 +16,7 @@ latest_length w base n = upto_length n (drop base w)
 
 pub latest_top : (w : List ℕ) (base n : ℕ) → 0 < n → latest w base n ≡ get_or w (base + (n - 1)) 0 ∷ latest w base (n - 1)
 unfolding upto
+latest_top w base zero h = elim h [ ]
 latest_top w base (suc n) h =
     let e : n ≡ suc n - 1 = omega arith in
     ap (λ (k : ℕ). get_or (drop base w) k 0 ∷ latest w base k) e ∙ ap (λ (x : ℕ). x ∷ latest w base (suc n - 1)) (get_or-drop base w (suc n - 1) 0)

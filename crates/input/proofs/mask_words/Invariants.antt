@@ -1,0 +1,14 @@
+use mathlib.Core.Path.{◌≡◌, refl}
+use Prim.Native.Nat.{◌-◌, ◌/◌, ◌≤◌}
+use native.Mathlib.Omega.{arith}
+use lib.ListN.{length, take}
+use Rattle.input.specs.Bytes.{tabulate, word_at}
+use Rattle.input.proofs.ByteLaws.{fill_start, fill_next, fill_whole}
+use borrow.Author.Rules.{rules}
+use Rattle.input.proofs.mask_words.Given as goal
+
+abbrev pub invariant-loop-i : goal.invariant-loop-i
+invariant-loop-i l = (l.i ≤ l.n) × (length l.words ≡ length l.initial.words) × (take l.i l.words ≡ tabulate (word_at 8 l.bytes) l.i)
+
+abbrev pub decreases-loop-i : goal.decreases-loop-i
+decreases-loop-i l = l.n - l.i

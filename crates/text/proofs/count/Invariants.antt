@@ -1,0 +1,16 @@
+use Rattle.mask.proofs.BitLaws.{digit_small}
+use mathlib.Core.Path.{◌≡◌, refl}
+use Prim.Native.Nat.{◌-◌, ◌≤◌}
+use native.Mathlib.Omega.{arith}
+use lib.ListN.{length}
+use Rattle.theory.specs.Sets.{members}
+use Rattle.theory.specs.Words.{bit_at}
+use Rattle.text.proofs.TextLaws.{count_next, count_few}
+use borrow.Author.Rules.{rules}
+use Rattle.text.proofs.count.Given as goal
+
+abbrev pub invariant-loop-i : goal.invariant-loop-i
+invariant-loop-i l = (l.i ≤ l.n) × (l.set ≡ length (members l.i (bit_at l.mask)))
+
+abbrev pub decreases-loop-i : goal.decreases-loop-i
+decreases-loop-i l = l.n - l.i

@@ -1,0 +1,16 @@
+use mathlib.Core.Path.{◌≡◌, refl, ◌∙◌}
+use Prim.Native.Nat.{◌-◌, ◌<◌, ◌≤◌}
+use native.Mathlib.Omega.{arith}
+use lib.ListN.{length}
+use Rattle.theory.specs.Sets.{members}
+use Rattle.theory.specs.Words.{bit_at}
+use Rattle.text.specs.Text.{spaced, Appended}
+use Rattle.text.proofs.TextLaws.{decimal_four, spaced_few, append_members, append_no_members}
+use borrow.Author.Rules.{rules}
+use Rattle.text.proofs.put_bits.Given as goal
+
+abbrev pub invariant-loop-i : goal.invariant-loop-i
+invariant-loop-i l = (l.i ≤ l.n) × (length l.out ≡ length l.initial.out) × Appended l.initial.out l.at (spaced (members l.i (bit_at l.mask))) l.out l.next
+
+abbrev pub decreases-loop-i : goal.decreases-loop-i
+decreases-loop-i l = l.n - l.i
