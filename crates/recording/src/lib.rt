@@ -1,13 +1,14 @@
-// The words of a recording on standard input, 16 bits each, low byte first, read through a lent block.
+// The words of a recording, 16 bits each, low byte first, read from a source, as standard input is, through a lent block.
 #![tactic(auto)]
 
-
-ghost use Rattle.std.specs.Prelude.{◌≡◌, true, false, cond, ◌+◌, ◌*◌, ◌/◌, ◌%◌, min, eqb};
+ghost use Rattle.std.specs.Prelude.{◌≡◌, true, false, cond, ◌+◌, ◌*◌, ◌/◌, ◌%◌, ◌≤◌, min, eqb, length};
 ghost use Rattle.recording.specs.Reading.{word_at, Keeps};
+
+use std::io::Read;
 
 // The last word; where the next one stands in the block, and how many bytes are left from there; how many words are read.
 // `bad`: the recording is malformed at word `words`, counted from 0, and no more is read.
-#[derive(Drop)]
+#[derive(Clone, Copy)]
 pub struct Reader {
     pub word: u16,
     pub at: usize,
@@ -60,12 +61,27 @@ fn joined(low: u8, high: u8) -> u16
     low as u16 + 256 * (high as u16)
 }
 
+// Reads until `bytes` is full, the source ends or a read fails, and returns how many bytes it put at the start.
+fn read_full<R: Read>(source: &mut R, bytes: &mut [u8]) -> usize
+    ensures { result ≤ length bytes.new }
+{
+    let mut done: usize = 0;
+    while done < bytes.len() {
+        match source.read(&mut bytes[done..]) {
+            Ok(0) => return done,
+            Ok(n) => done += n,
+            Err(_) => return done,
+        }
+    }
+    done
+}
+
 // A new block, where the last one is used up.
-fn fill(block: &mut [u8; 65536], r: Reader) -> Reader {
+fn fill<R: Read>(source: &mut R, block: &mut [u8; 65536], r: Reader) -> Reader {
     if 0 < r.left {
         return r;
     }
-    let n = io::read_full(0, block);
+    let n = read_full(source, block);
     Reader {
         word: r.word,
         at: 0,
@@ -96,32 +112,32 @@ fn take(block: &[u8; 65536], r: Reader) -> Reader
     }
 }
 
-pub fn next(block: &mut [u8; 65536], r: Reader) -> Reader
+pub fn next<R: Read>(source: &mut R, block: &mut [u8; 65536], r: Reader) -> Reader
     ensures { Keeps r result }
 {
     if r.bad {
         return r;
     }
-    let filled = fill(block, r);
+    let filled = fill(source, block, r);
     take(block, filled)
 }
 
 // A word that the format sets.
-pub fn expect(block: &mut [u8; 65536], r: Reader, word: u16) -> Reader
+pub fn expect<R: Read>(source: &mut R, block: &mut [u8; 65536], r: Reader, word: u16) -> Reader
     ensures { Keeps r result × (result.bad ≡ false → result.word ≡ word) }
 {
-    let got = next(block, r);
+    let got = next(source, block, r);
     if got.word == word { got } else { wrong(got) }
 }
 
 // The recording ends here.
-pub fn expect_end(block: &mut [u8; 65536], r: Reader) -> Reader
+pub fn expect_end<R: Read>(source: &mut R, block: &mut [u8; 65536], r: Reader) -> Reader
     ensures { Keeps r result × (result.bad ≡ false → result.left ≡ 0) }
 {
     if r.bad {
         return r;
     }
-    let filled = fill(block, r);
+    let filled = fill(source, block, r);
     if 0 < filled.left {
         return at_word(filled.words, true);
     }
@@ -129,13 +145,18 @@ pub fn expect_end(block: &mut [u8; 65536], r: Reader) -> Reader
 }
 
 // Fills `words`.
-pub fn read(block: &mut [u8; 65536], from: Reader, words: &mut [u16]) -> Reader
+pub fn read<R: Read>(
+    source: &mut R,
+    block: &mut [u8; 65536],
+    from: Reader,
+    words: &mut [u16],
+) -> Reader
     ensures { Keeps from result }
 {
     let mut r = from;
     let mut i: usize = 0;
     while i < words.len() {
-        r = next(block, r);
+        r = next(source, block, r);
         words[i] = r.word;
         i += 1;
     }
@@ -143,7 +164,7 @@ pub fn read(block: &mut [u8; 65536], from: Reader, words: &mut [u16]) -> Reader
 }
 
 // Past the next n words.
-pub fn skip(block: &mut [u8; 65536], from: Reader, n: usize) -> Reader
+pub fn skip<R: Read>(source: &mut R, block: &mut [u8; 65536], from: Reader, n: usize) -> Reader
     ensures { Keeps from result }
 {
     let mut r = from;
@@ -152,7 +173,7 @@ pub fn skip(block: &mut [u8; 65536], from: Reader, n: usize) -> Reader
         if r.bad {
             return r;
         }
-        r = next(block, r);
+        r = next(source, block, r);
         i += 1;
     }
     r
@@ -171,13 +192,13 @@ struct WideWord {
     reader: Reader,
 }
 
-fn next_wide(block: &mut [u8; 65536], r: Reader) -> WideWord
+fn next_wide<R: Read>(source: &mut R, block: &mut [u8; 65536], r: Reader) -> WideWord
     ensures { Keeps r result.reader }
 {
-    let a = next(block, r);
-    let b = next(block, a);
-    let c = next(block, b);
-    let d = next(block, c);
+    let a = next(source, block, r);
+    let b = next(source, block, a);
+    let c = next(source, block, b);
+    let d = next(source, block, c);
     WideWord {
         value: wide(a.word, b.word, c.word, d.word),
         reader: d,
@@ -185,13 +206,18 @@ fn next_wide(block: &mut [u8; 65536], r: Reader) -> WideWord
 }
 
 // Fills `words`, four words of the recording to each.
-pub fn read_wide(block: &mut [u8; 65536], from: Reader, words: &mut [u64]) -> Reader
+pub fn read_wide<R: Read>(
+    source: &mut R,
+    block: &mut [u8; 65536],
+    from: Reader,
+    words: &mut [u64],
+) -> Reader
     ensures { Keeps from result }
 {
     let mut r = from;
     let mut i: usize = 0;
     while i < words.len() {
-        let w = next_wide(block, r);
+        let w = next_wide(source, block, r);
         words[i] = w.value;
         r = w.reader;
         i += 1;
@@ -200,10 +226,14 @@ pub fn read_wide(block: &mut [u8; 65536], from: Reader, words: &mut [u64]) -> Re
 }
 
 // Where byte i is: in a new word if i is even.
-fn next_byte(block: &mut [u8; 65536], r: Reader, i: usize) -> Reader
+fn next_byte<R: Read>(source: &mut R, block: &mut [u8; 65536], r: Reader, i: usize) -> Reader
     ensures { Keeps r result }
 {
-    if i % 2 == 0 { next(block, r) } else { r }
+    if i % 2 == 0 {
+        next(source, block, r)
+    } else {
+        r
+    }
 }
 
 // Byte i, of its word.
@@ -218,13 +248,18 @@ fn byte(word: u16, i: usize) -> u8
 }
 
 // Fills `bytes`, two to a word of the recording; what stands beside an odd last one is passed over.
-pub fn read_bytes(block: &mut [u8; 65536], from: Reader, bytes: &mut [u8]) -> Reader
+pub fn read_bytes<R: Read>(
+    source: &mut R,
+    block: &mut [u8; 65536],
+    from: Reader,
+    bytes: &mut [u8],
+) -> Reader
     ensures { Keeps from result }
 {
     let mut r = from;
     let mut i: usize = 0;
     while i < bytes.len() {
-        r = next_byte(block, r, i);
+        r = next_byte(source, block, r, i);
         bytes[i] = byte(r.word, i);
         i += 1;
     }
