@@ -7,6 +7,7 @@ ghost use Rattle.recording.specs.Reading.{Keeps};
 ghost use Rattle.records.specs.Records.{WideFits, PrepareFits, CompleteFits};
 
 use recording::Reader;
+use std::io::Read;
 
 fn place_room() -> [u16; 1024]
     ensures { length result ≡ 1024 }
@@ -33,11 +34,11 @@ pub struct Check {
     pub reader: Reader,
 }
 
-pub fn read_check(block: &mut [u8; 65536], r: Reader) -> Check
+pub fn read_check<R: Read>(source: &mut R, block: &mut [u8; 65536], r: Reader) -> Check
     ensures { Keeps r result.reader }
 {
-    let number = recording::next(block, r);
-    let place = recording::next(block, number);
+    let number = recording::next(source, block, r);
+    let place = recording::next(source, block, number);
     Check {
         number: number.word,
         place: place.word,
@@ -52,10 +53,10 @@ pub struct Length {
     pub reader: Reader,
 }
 
-fn read_length(block: &mut [u8; 65536], r: Reader, most: usize) -> Length
+fn read_length<R: Read>(source: &mut R, block: &mut [u8; 65536], r: Reader, most: usize) -> Length
     ensures { (result.length ≤ most) × Keeps r result.reader }
 {
-    let length = recording::next(block, r);
+    let length = recording::next(source, block, r);
     let n = length.word as usize;
     if most < n {
         return Length {
@@ -78,13 +79,18 @@ pub struct Needed {
     pub reader: Reader,
 }
 
-pub fn read_needed(block: &mut [u8; 65536], r: Reader, room: usize) -> Needed
+pub fn read_needed<R: Read>(
+    source: &mut R,
+    block: &mut [u8; 65536],
+    r: Reader,
+    room: usize,
+) -> Needed
     ensures { (result.work ≤ room) × Keeps r result.reader }
 {
-    let work = read_length(block, r, room);
-    let number = recording::next(block, work.reader);
-    let place = recording::next(block, number);
-    let reply = recording::next(block, place);
+    let work = read_length(source, block, r, room);
+    let number = recording::next(source, block, work.reader);
+    let place = recording::next(source, block, number);
+    let reply = recording::next(source, block, place);
     Needed {
         work: work.length,
         number: number.word,
@@ -108,13 +114,13 @@ fn most_places(number: u16) -> usize
     if number == 0 { 0 } else { 1024 }
 }
 
-fn read_places(block: &mut [u8; 65536], r: Reader, number: u16) -> Places
+fn read_places<R: Read>(source: &mut R, block: &mut [u8; 65536], r: Reader, number: u16) -> Places
     ensures { (result.count ≤ length result.places) × Keeps r result.reader }
 {
-    let count = read_length(block, r, most_places(number));
+    let count = read_length(source, block, r, most_places(number));
     let n = count.length;
     let mut places = place_room();
-    let whole = recording::read(block, count.reader, &mut places[..n]);
+    let whole = recording::read(source, block, count.reader, &mut places[..n]);
     Places {
         count: n,
         places: places,
@@ -130,12 +136,12 @@ pub struct Wide {
     pub reader: Reader,
 }
 
-fn read_words(block: &mut [u8; 65536], r: Reader, n: usize) -> Wide
+fn read_words<R: Read>(source: &mut R, block: &mut [u8; 65536], r: Reader, n: usize) -> Wide
     requires { n ≤ 32 }
     ensures { WideFits result × Keeps r result.reader }
 {
     let mut words = wide_room();
-    let whole = recording::read_wide(block, r, &mut words[..n]);
+    let whole = recording::read_wide(source, block, r, &mut words[..n]);
     Wide {
         length: n,
         words: words,
@@ -143,20 +149,26 @@ fn read_words(block: &mut [u8; 65536], r: Reader, n: usize) -> Wide
     }
 }
 
-fn read_mask(block: &mut [u8; 65536], r: Reader) -> Wide
+fn read_mask<R: Read>(source: &mut R, block: &mut [u8; 65536], r: Reader) -> Wide
     ensures { WideFits result × Keeps r result.reader }
 {
-    let length = read_length(block, r, 32);
-    read_words(block, length.reader, length.length)
+    let length = read_length(source, block, r, 32);
+    read_words(source, block, length.reader, length.length)
 }
 
 // After success the output's words, and after a refusal none.
-fn read_output(block: &mut [u8; 65536], r: Reader, number: u16, n: usize) -> Wide
+fn read_output<R: Read>(
+    source: &mut R,
+    block: &mut [u8; 65536],
+    r: Reader,
+    number: u16,
+    n: usize,
+) -> Wide
     requires { n ≤ 32 }
     ensures { WideFits result × Keeps r result.reader }
 {
     if number == 0 {
-        return read_words(block, r, n);
+        return read_words(source, block, r, n);
     }
     Wide {
         length: n,
@@ -175,14 +187,19 @@ pub struct Prepare {
     pub reader: Reader,
 }
 
-pub fn read_prepare(block: &mut [u8; 65536], r: Reader, room: usize) -> Prepare
+pub fn read_prepare<R: Read>(
+    source: &mut R,
+    block: &mut [u8; 65536],
+    r: Reader,
+    room: usize,
+) -> Prepare
     ensures { PrepareFits room result × Keeps r result.reader }
 {
-    let output = read_length(block, r, 32);
-    let work = read_length(block, output.reader, room);
-    let number = recording::next(block, work.reader);
-    let listed = read_places(block, number, number.word);
-    let words = read_output(block, listed.reader, number.word, output.length);
+    let output = read_length(source, block, r, 32);
+    let work = read_length(source, block, output.reader, room);
+    let number = recording::next(source, block, work.reader);
+    let listed = read_places(source, block, number, number.word);
+    let words = read_output(source, block, listed.reader, number.word, output.length);
     let reader = words.reader;
     Prepare {
         work: work.length,
@@ -202,12 +219,17 @@ pub struct Complete {
     pub reader: Reader,
 }
 
-pub fn read_complete(block: &mut [u8; 65536], r: Reader, room: usize) -> Complete
+pub fn read_complete<R: Read>(
+    source: &mut R,
+    block: &mut [u8; 65536],
+    r: Reader,
+    room: usize,
+) -> Complete
     ensures { CompleteFits room result × Keeps r result.reader }
 {
-    let never = read_mask(block, r);
-    let atom_never = read_mask(block, never.reader);
-    let rest = read_prepare(block, atom_never.reader, room);
+    let never = read_mask(source, block, r);
+    let atom_never = read_mask(source, block, never.reader);
+    let rest = read_prepare(source, block, atom_never.reader, room);
     let reader = rest.reader;
     Complete {
         never: never,
@@ -218,11 +240,16 @@ pub fn read_complete(block: &mut [u8; 65536], r: Reader, room: usize) -> Complet
 }
 
 // The program's input goes into lent room, behind its length.
-fn read_input(block: &mut [u8; 65536], r: Reader, bytes: &mut [u8]) -> Length
+fn read_input<R: Read>(
+    source: &mut R,
+    block: &mut [u8; 65536],
+    r: Reader,
+    bytes: &mut [u8],
+) -> Length
     ensures { (result.length ≤ length bytes.old) × Keeps r result.reader }
 {
-    let low = recording::next(block, r);
-    let high = recording::next(block, low);
+    let low = recording::next(source, block, r);
+    let high = recording::next(source, block, low);
     let n = low.word as usize + 65536 * (high.word as usize);
     if bytes.len() < n {
         return Length {
@@ -230,7 +257,7 @@ fn read_input(block: &mut [u8; 65536], r: Reader, bytes: &mut [u8]) -> Length
             reader: recording::wrong(high),
         };
     }
-    let whole = recording::read_bytes(block, high, &mut bytes[..n]);
+    let whole = recording::read_bytes(source, block, high, &mut bytes[..n]);
     Length {
         length: n,
         reader: whole,
@@ -245,16 +272,16 @@ pub struct Text {
 }
 
 // The text, behind number and places. Of a 12 it is the text for the lowest place, which is the one that `report` gives.
-fn read_text(block: &mut [u8; 65536], r: Reader) -> Text
+fn read_text<R: Read>(source: &mut R, block: &mut [u8; 65536], r: Reader) -> Text
     ensures { (result.length ≤ length result.bytes) × Keeps r result.reader }
 {
-    let number = recording::next(block, r);
-    let count = recording::next(block, number);
-    let places = recording::skip(block, count, count.word as usize);
-    let length = read_length(block, places, 6144);
+    let number = recording::next(source, block, r);
+    let count = recording::next(source, block, number);
+    let places = recording::skip(source, block, count, count.word as usize);
+    let length = read_length(source, block, places, 6144);
     let n = length.length;
     let mut bytes = text_room();
-    let whole = recording::read_bytes(block, length.reader, &mut bytes[..n]);
+    let whole = recording::read_bytes(source, block, length.reader, &mut bytes[..n]);
     Text {
         length: n,
         bytes: bytes,
@@ -270,11 +297,16 @@ pub struct Run {
     pub reader: Reader,
 }
 
-pub fn read_run(block: &mut [u8; 65536], r: Reader, bytes: &mut [u8]) -> Run
+pub fn read_run<R: Read>(
+    source: &mut R,
+    block: &mut [u8; 65536],
+    r: Reader,
+    bytes: &mut [u8],
+) -> Run
     ensures { (result.input ≤ length bytes.old) × (result.text.length ≤ length result.text.bytes) × Keeps r result.reader }
 {
-    let input = read_input(block, r, bytes);
-    let text = read_text(block, input.reader);
+    let input = read_input(source, block, r, bytes);
+    let text = read_text(source, block, input.reader);
     let reader = text.reader;
     Run {
         input: input.length,
