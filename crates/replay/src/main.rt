@@ -1,99 +1,99 @@
 // Replays the recording on standard input (README.md has its format), names the records in which something differs, and prints how many answers agree.
 #![tactic(auto)]
 
-ghost use Rattle.std.specs.Prelude.{◌≡◌, false, ◌<◌};
+ghost use Rattle.std.specs.Prelude.{◌≡◌, false, ◌<◌, IfOk};
 
 use recording::Reader;
+use std::io;
+use std::io::Read;
 
-fn write_name(call: usize) -> bool {
+fn name(call: usize) -> &'static str {
     match call {
-        0 => io::write_all(1, b"check"),
-        1 => io::write_all(1, b"needed"),
-        2 => io::write_all(1, b"prepare"),
-        3 => io::write_all(1, b"complete"),
-        _ => io::write_all(1, b"program"),
+        0 => "check",
+        1 => "needed",
+        2 => "prepare",
+        3 => "complete",
+        _ => "program",
     }
 }
 
 // A line for each answer that differs in this record; records are counted from 0.
-fn tell(call: usize, before: u64, after: u64, record: u64) {
-    let mut i = before;
-    while i < after {
-        write_name(call);
-        io::write_all(1, b" differs in record ");
-        io::print_decimal(1, record);
-        io::write_all(1, b"\n");
-        i += 1;
+fn tell(rt: &impl Print, call: usize, before: u64, after: u64, number: u64) -> io::Result<()> {
+    let name = name(call);
+    for _ in before..after {
+        println!(rt; "{name} differs in record {number}")?;
     }
+    Ok(())
 }
 
-fn replay_record(
+fn replay_record<R: Read>(
+    rt: &impl Print,
+    source: &mut R,
     block: &mut [u8; 65536],
     r: Reader,
     scores: &mut [u64; 10],
-    record: u64,
-) -> Reader {
+    number: u64,
+) -> io::Result<Reader> {
     let check = scores[1];
     let needed = scores[3];
     let prepare = scores[5];
     let complete = scores[7];
     let program = scores[9];
-    let after = replaying::replay_record(block, r, scores);
-    tell(0, check, scores[1], record);
-    tell(1, needed, scores[3], record);
-    tell(2, prepare, scores[5], record);
-    tell(3, complete, scores[7], record);
-    tell(4, program, scores[9], record);
-    after
+    let after = replaying::replay_record(source, block, r, scores);
+    tell(rt, 0, check, scores[1], number)?;
+    tell(rt, 1, needed, scores[3], number)?;
+    tell(rt, 2, prepare, scores[5], number)?;
+    tell(rt, 3, complete, scores[7], number)?;
+    tell(rt, 4, program, scores[9], number)?;
+    Ok(after)
 }
 
 // The mark, the version and the records. A recording that is not malformed was read to its end.
-fn replay(block: &mut [u8; 65536], scores: &mut [u64; 10]) -> Reader
-    ensures { result.bad ≡ false → result.left ≡ 0 }
+fn replay<R: Read>(
+    rt: &impl Print,
+    source: &mut R,
+    block: &mut [u8; 65536],
+    scores: &mut [u64; 10],
+) -> io::Result<Reader>
+    ensures { IfOk result (λ r. r.bad ≡ false → r.left ≡ 0) }
 {
-    let mark = recording::expect(block, recording::start(), 0x5346);
-    let version = recording::expect(block, mark, 1);
-    let mut r = recording::next(block, version);
+    let mark = recording::expect(source, block, recording::start(), 0x5346);
+    let version = recording::expect(source, block, mark, 1);
+    let mut r = recording::next(source, block, version);
     let n = r.word as u64;
-    let mut i: u64 = 0;
-    while i < n {
+    for i in 0..n {
         if r.bad {
-            return r;
+            return Ok(r);
         }
-        r = replay_record(block, r, scores, i);
-        i += 1;
+        r = replay_record(rt, source, block, r, scores, i)?;
     }
-    recording::expect_end(block, r)
+    Ok(recording::expect_end(source, block, r))
 }
 
-fn print_call(scores: &[u64; 10], call: usize)
+fn print_call(rt: &impl Print, scores: &[u64; 10], call: usize) -> io::Result<()>
     requires { call < 5 }
 {
-    write_name(call);
-    io::write_all(1, b" ");
-    io::print_decimal(1, scores[2 * call]);
-    io::write_all(1, b" agree, ");
-    io::print_decimal(1, scores[2 * call + 1]);
-    io::write_all(1, b" differ\n");
+    let name = name(call);
+    let agree = scores[2 * call];
+    let differ = scores[2 * call + 1];
+    println!(rt; "{name} {agree} agree, {differ} differ")
 }
 
-fn print(r: Reader, scores: &[u64; 10]) {
+fn print(rt: &impl Print, r: Reader, scores: &[u64; 10]) -> io::Result<()> {
     if r.bad {
-        io::write_all(1, b"malformed recording at word ");
-        io::print_decimal(1, r.words);
-        io::write_all(1, b"\n");
-        return;
+        let word = r.words;
+        return println!(rt; "malformed recording at word {word}");
     }
-    print_call(scores, 0);
-    print_call(scores, 1);
-    print_call(scores, 2);
-    print_call(scores, 3);
-    print_call(scores, 4);
+    print_call(rt, scores, 0)?;
+    print_call(rt, scores, 1)?;
+    print_call(rt, scores, 2)?;
+    print_call(rt, scores, 3)?;
+    print_call(rt, scores, 4)
 }
 
-fn main() {
-    let mut block = io::large_buffer();
+fn main(rt: HostRuntime) -> io::Result<()> {
+    let mut block = [0u8; 65536];
     let mut scores = [0u64; 10];
-    let r = replay(&mut block, &mut scores);
-    print(r, &scores);
+    let r = replay(&rt, &mut rt.stdin(), &mut block, &mut scores)?;
+    print(&rt, r, &scores)
 }

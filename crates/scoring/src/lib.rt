@@ -10,6 +10,7 @@ ghost use Rattle.scoring.specs.Said.{CheckSaid, NeededSaid, PrepareSaid, Complet
 
 use recording::Reader;
 use records::{Check, Complete, Needed, Prepare, Run};
+use std::io::Read;
 
 fn count(scores: &mut [u64; 10], at: usize)
     requires { at < 10 }
@@ -29,7 +30,8 @@ fn score(scores: &mut [u64; 10], call: usize, same: bool)
     count(scores, 2 * call + 1);
 }
 
-pub fn score_check(
+pub fn score_check<R: Read>(
+    source: &mut R,
     block: &mut [u8; 65536],
     r: Reader,
     graph: &[u16],
@@ -37,7 +39,7 @@ pub fn score_check(
 ) -> Check
     ensures { Keeps r result.reader × Scored (CheckSaid graph.now result) result.reader.bad 0 scores.old scores.new }
 {
-    let said = records::read_check(block, r);
+    let said = records::read_check(source, block, r);
     let reader = said.reader;
     if reader.bad {
         return said;
@@ -47,7 +49,8 @@ pub fn score_check(
     said
 }
 
-pub fn score_needed(
+pub fn score_needed<R: Read>(
+    source: &mut R,
     block: &mut [u8; 65536],
     r: Reader,
     graph: &[u16],
@@ -56,7 +59,7 @@ pub fn score_needed(
 ) -> Needed
     ensures { Keeps r result.reader × Scored (NeededSaid graph.now result) result.reader.bad 1 scores.old scores.new }
 {
-    let said = records::read_needed(block, r, work.len());
+    let said = records::read_needed(source, block, r, work.len());
     let reader = said.reader;
     if reader.bad {
         return said;
@@ -67,13 +70,13 @@ pub fn score_needed(
     said
 }
 
-fn prepare_agrees(graph: &[u16], work: &mut [u16], said: Prepare) -> bool
-    requires { PrepareFits (length work.old) said }
-    ensures { PrepareSaid graph.now said result }
+fn prepare_agrees(graph: &[u16], work: &mut [u16], said: &Prepare) -> bool
+    requires { PrepareFits (length work.old) said.now }
+    ensures { PrepareSaid graph.now said.now result }
 {
     let n = said.work;
-    let listed = said.listed;
-    let output = said.output;
+    let listed = &said.listed;
+    let output = &said.output;
     let q = listed.count;
     let places = listed.places;
     let k = output.length;
@@ -89,7 +92,8 @@ fn prepare_agrees(graph: &[u16], work: &mut [u16], said: Prepare) -> bool
     )
 }
 
-pub fn score_prepare(
+pub fn score_prepare<R: Read>(
+    source: &mut R,
     block: &mut [u8; 65536],
     r: Reader,
     graph: &[u16],
@@ -98,30 +102,30 @@ pub fn score_prepare(
 ) -> Prepare
     ensures { Keeps r result.reader × Scored (PrepareSaid graph.now result) result.reader.bad 2 scores.old scores.new }
 {
-    let said = records::read_prepare(block, r, work.len());
+    let said = records::read_prepare(source, block, r, work.len());
     let reader = said.reader;
     if reader.bad {
         return said;
     }
-    let same = prepare_agrees(graph, work, said);
+    let same = prepare_agrees(graph, work, &said);
     score(scores, 2, same);
     said
 }
 
-fn complete_agrees(graph: &[u16], work: &mut [u16], said: Complete) -> bool
-    requires { CompleteFits (length work.old) said }
-    ensures { CompleteSaid graph.now said result }
+fn complete_agrees(graph: &[u16], work: &mut [u16], said: &Complete) -> bool
+    requires { CompleteFits (length work.old) said.now }
+    ensures { CompleteSaid graph.now said.now result }
 {
-    let never = said.never;
+    let never = &said.never;
     let a = never.length;
     let nodes = never.words;
-    let atom_never = said.atom_never;
+    let atom_never = &said.atom_never;
     let b = atom_never.length;
     let atoms = atom_never.words;
-    let rest = said.rest;
+    let rest = &said.rest;
     let n = rest.work;
-    let listed = rest.listed;
-    let output = rest.output;
+    let listed = &rest.listed;
+    let output = &rest.output;
     let q = listed.count;
     let places = listed.places;
     let k = output.length;
@@ -139,7 +143,8 @@ fn complete_agrees(graph: &[u16], work: &mut [u16], said: Complete) -> bool
     )
 }
 
-pub fn score_complete(
+pub fn score_complete<R: Read>(
+    source: &mut R,
     block: &mut [u8; 65536],
     r: Reader,
     graph: &[u16],
@@ -148,17 +153,18 @@ pub fn score_complete(
 ) -> Complete
     ensures { Keeps r result.reader × Scored (CompleteSaid graph.now result) result.reader.bad 3 scores.old scores.new }
 {
-    let said = records::read_complete(block, r, work.len());
+    let said = records::read_complete(source, block, r, work.len());
     let reader = said.reader;
     if reader.bad {
         return said;
     }
-    let same = complete_agrees(graph, work, said);
+    let same = complete_agrees(graph, work, &said);
     score(scores, 3, same);
     said
 }
 
-pub fn score_run(
+pub fn score_run<R: Read>(
+    source: &mut R,
     block: &mut [u8; 65536],
     r: Reader,
     bytes: &mut [u8],
@@ -166,16 +172,15 @@ pub fn score_run(
 ) -> Run
     ensures { Keeps r result.reader × Scored (RunSaid bytes.new result) result.reader.bad 4 scores.old scores.new }
 {
-    let said = records::read_run(block, r, bytes);
+    let said = records::read_run(source, block, r, bytes);
     let reader = said.reader;
     if reader.bad {
         return said;
     }
-    let text = said.text;
+    let text = &said.text;
     let n = said.input;
     let k = text.length;
-    let expected = text.bytes;
-    let same = agreement::program_agrees(&bytes[..n], &expected[..k]);
+    let same = agreement::program_agrees(&bytes[..n], &text.bytes[..k]);
     score(scores, 4, same);
     said
 }
