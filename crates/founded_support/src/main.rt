@@ -4,29 +4,34 @@
 // nothing in it (`enough` of report/proofs/InputLaws), so that is all that is kept of a longer input.
 #![tactic(auto)]
 
-use libc::{STDIN_FILENO, STDOUT_FILENO};
+ghost use Rattle.std.specs.Prelude.{◌≤◌, length, IfOk};
 
-// Reads on, and says whether there was more.
-fn skip() -> bool {
-    let mut space = io::buffer();
-    io::read_full(STDIN_FILENO, &mut space) > 0
-}
+use std::io;
+use std::io::Read;
 
-// Reads to the end. A proved loop ends, and nothing says that the input does: so the turns are counted, from a number that no run uses up.
-fn skip_rest() {
-    let mut turns = u64::MAX;
-    while turns > 0 && skip() {
-        turns -= 1;
+// Reads until `bytes` is full or the source ends, and returns how many bytes it put at the start.
+fn read_full<R: Read>(source: &mut R, bytes: &mut [u8]) -> io::Result<usize>
+    ensures { IfOk result (λ n. n ≤ length bytes.new) }
+{
+    let mut done: usize = 0;
+    while done < bytes.len() {
+        let n = source.read(&mut bytes[done..])?;
+        if n == 0 {
+            return Ok(done);
+        }
+        done += n;
     }
+    Ok(done)
 }
 
-fn main() {
+fn main(rt: HostRuntime) -> io::Result<()> {
+    let mut source = rt.stdin();
     let mut input = [0u8; 26891];
     let mut out = [0u8; 6144];
-    let read = io::read_full(STDIN_FILENO, &mut input);
+    let read = read_full(&mut source, &mut input)?;
     let written = report::report(&input[..read], &mut out);
     if read == 26891 {
-        skip_rest();
+        io::copy(&mut source, &mut io::sink())?;
     }
-    io::write_all(STDOUT_FILENO, &out[..written]);
+    rt.write_all(&out[..written])
 }
