@@ -2,7 +2,7 @@
 // Masks: a set of numbers in 64-bit words, bit i % 64 of word i / 64, lowest first, for i.
 #![tactic(auto)]
 
-ghost use Rattle.std.specs.Prelude.{◌≡◌, ◌+◌, ◌*◌, ◌<◌, ◌≤◌, min, length};
+ghost use Rattle.std.specs.Prelude.{◌≡◌, ◌*◌, ◌≤◌, min, length};
 ghost use Rattle.mask.specs.Mask.{words_of, bits, pack, flagged};
 
 fn least(a: usize, b: usize) -> usize

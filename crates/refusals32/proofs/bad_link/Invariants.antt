@@ -1,0 +1,16 @@
+-- Written by tools/widen from crates/refusals/proofs/bad_link/Invariants.antt: edit that one.
+use native.Mathlib.Omega.{arith}
+use Prim.Native.Nat.{◌+◌, ◌≤◌, ◌-◌}
+use Rattle.refusals.specs.Search.{Clear}
+use Rattle.refusals.specs.Refusals.{bad_link}
+use Rattle.refusals.proofs.SearchLaws.{clear_more, first_found, first_none}
+use Rattle.refusals.proofs.RowLaws.{upward_passes, link_told}
+use Rattle.graph.proofs.DecodeLaws.{next_of_lem, link_within}
+use borrow.Author.Rules.{rules}
+use Rattle.refusals32.proofs.bad_link.Given as goal
+
+abbrev pub invariant-loop-l : goal.invariant-loop-l
+invariant-loop-l l = (1 ≤ l.l) × (l.l ≤ l.end + 1) × Clear (bad_link l.graph) 1 l.l
+
+abbrev pub decreases-loop-l : goal.decreases-loop-l
+decreases-loop-l l = l.end + 1 - l.l

@@ -1,0 +1,25 @@
+-- Written by tools/widen from crates/refusals/proofs/first_turn/Answers.antt: edit that one.
+use native.Mathlib.Omega.{arith}
+use Prim.Native.Nat.{◌+◌, ◌≤◌, ◌-◌}
+use Rattle.refusals.specs.Search.{Clear}
+use Rattle.refusals.specs.Passed.{turns_at}
+use Rattle.refusals.proofs.SearchLaws.{clear_none, clear_more, first_found, first_none}
+use Rattle.refusals.proofs.RowLaws.{turn_told}
+use Rattle.graph.proofs.DecodeLaws.{next_of_lem, link_within}
+use borrow.Author.Rules.{rules}
+use Rattle.refusals32.proofs.first_turn.Goals as goal
+
+pub loop-l-init : goal.loop-l-init
+loop-l-init c = (omega arith, clear_none 1)
+
+pub next-requires : goal.next-requires
+next-requires c = link_within c.links_from-from.ensures c.requires.size (omega arith) (omega arith)
+
+pub returns-then-turns : goal.returns-then-turns
+returns-then-turns c = first_found c.loop-l.invariant.1 (omega arith) (turn_told c.args.graph.now c.loop-l.l c.turns.ensures (next_of_lem c.links_from-from.ensures c.loop-l.l c.next.ensures (omega arith)) c.links-end.ensures c.if-turns.true)
+
+pub loop-l-preserved : goal.loop-l-preserved
+loop-l-preserved c = (omega arith, clear_more c.loop-l.invariant.1 (turn_told c.args.graph.now c.loop-l.l c.turns.ensures (next_of_lem c.links_from-from.ensures c.loop-l.l c.next.ensures (omega arith)) c.links-end.ensures c.if-turns.false))
+
+pub returns : goal.returns
+returns c = first_none c.loop-l.invariant.1 (omega arith)
