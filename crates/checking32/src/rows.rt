@@ -1,6 +1,6 @@
 // Written by tools/widen from crates/checking/src/rows.rt: edit that one.
 // Rows 14 and 7 to 9 of the graph check, and the check from row 4 on.
-ghost use Rattle.std.specs.Prelude.{◌≡◌, ◌+◌, ◌≤◌, get_or, drop};
+ghost use Rattle.std.specs.Prelude.{◌≡◌, ◌≤◌, get_or, drop};
 ghost use Rattle.theory.specs.Words.{theory_of};
 ghost use Rattle.theory.specs.Links.{comes_back};
 ghost use Rattle.theory.specs.Accepted.{edition2, leaf_entries, head_entries};

@@ -1,0 +1,24 @@
+-- Written by tools/widen from crates/checking/proofs/rows/heads_back/Answers.antt: edit that one.
+use native.Mathlib.Omega.{arith}
+use Prim.Native.Nat.{◌≤◌, ◌-◌}
+use Rattle.refusals.specs.Search.{Clear}
+use Rattle.refusals.specs.Refusals.{heads_back}
+use Rattle.refusals.proofs.SearchLaws.{clear_none, clear_more, first_found, first_none}
+use Rattle.refusals.proofs.RowLaws.{back_told}
+use borrow.Author.Rules.{rules}
+use Rattle.checking32.proofs.rows.heads_back.Goals as goal
+
+pub loop-p-init : goal.loop-p-init
+loop-p-init c = (omega arith, clear_none 0)
+
+pub comes_back-requires : goal.comes_back-requires
+comes_back-requires c = (c.requires.0, c.requires.1, rw c.first_head.ensures (c.requires.1.head_first c.loop-p.p (omega arith)))
+
+pub returns-then-comes_back : goal.returns-then-comes_back
+returns-then-comes_back c = first_found c.loop-p.invariant.1 (omega arith) (back_told c.args.graph.now c.comes_back.ensures c.first_head.ensures c.if-comes_back.true)
+
+pub loop-p-preserved : goal.loop-p-preserved
+loop-p-preserved c = (omega arith, clear_more c.loop-p.invariant.1 (back_told c.args.graph.now c.comes_back.ensures c.first_head.ensures c.if-comes_back.false))
+
+pub returns : goal.returns
+returns c = first_none c.loop-p.invariant.1 (omega arith)
