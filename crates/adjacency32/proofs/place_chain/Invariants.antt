@@ -1,0 +1,21 @@
+-- Written by tools/widen from crates/adjacency/proofs/place_chain/Invariants.antt: edit that one.
+use mathlib.Core.Path.{◌≡◌, refl}
+use mathlib.Core.List.{[], ◌∷◌}
+use native.Mathlib.Omega.{arith}
+use lib.ListN.{length}
+use Rattle.theory.specs.Words.{chain}
+use Rattle.theory.specs.Links.{MeetsOnce}
+use Rattle.theory.specs.Rows.{edge, tagged}
+use Rattle.theory.specs.Drive.{Drives}
+use Rattle.theory.proofs.ChainLaws.{once_next, chain_end, chain_falls}
+use Rattle.theory.proofs.DriveLaws.{drives_none, turn_next, turn_more, turn_done, chain_turn}
+use Rattle.graph.proofs.DecodeLaws.{value_of_lem, next_of_lem, link_in}
+use Rattle.adjacency.specs.Building.{Building}
+use borrow.Author.Rules.{rules}
+use Rattle.adjacency32.proofs.place_chain.Given as goal
+
+abbrev pub invariant-loop-l : goal.invariant-loop-l
+invariant-loop-l l = MeetsOnce l.graph l.l × Drives (Building 4294967296 l.filling l.rows) 0 l.initial.part 0 (tagged l.item (chain l.graph l.first)) l.part 0 (tagged l.item (chain l.graph l.l))
+
+abbrev pub decreases-loop-l : goal.decreases-loop-l
+decreases-loop-l l = length (chain l.graph l.l)

@@ -1,0 +1,37 @@
+-- Written by tools/widen from crates/cones/proofs/cyclic_head/Answers.antt: edit that one.
+use native.Mathlib.Omega.{arith}
+use lib.ListN.{length}
+use Rattle.theory.specs.Words.{chain, theory_of}
+use Rattle.theory.proofs.ChainLaws.{chain_falls}
+use Rattle.graph.proofs.DecodeLaws.{value_of_lem, next_of_lem, link_in}
+use Rattle.cones.proofs.HeadLaws.{Heads, heads_start, head_low, heads_next, heads_end}
+use Rattle.cones32.proofs.cyclic_head.Goals as goal
+
+pub links_from-from-requires : goal.links_from-from-requires
+links_from-from-requires c = c.requires.accepted.0.size
+
+pub loop-l-init : goal.loop-l-init
+loop-l-init c = heads_start c.requires.meets_once.0 c.requires.meets_once.1
+
+pub value-a-requires : goal.value-a-requires
+value-a-requires c = link_in c.links_from-from.ensures c.requires.accepted.0 c.loop-l.invariant.once (λ z. omega arith)
+
+pub next-l-requires : goal.next-l-requires
+next-l-requires c = link_in c.links_from-from.ensures c.requires.accepted.0 c.loop-l.invariant.once (λ z. omega arith)
+
+pub overflow_add-b : goal.overflow_add-b
+unfolding theory_of
+overflow_add-b c = let l = c.requires.accepted.1.laid in let h = head_low c.loop-l.invariant (λ z. omega arith) in let e = (value_of_lem c.links_from-from.ensures c.loop-l.l c.value-a.ensures (omega arith)) in let k = c.requires.accepted.1.ends in omega arith
+
+pub at-requires : goal.at-requires
+unfolding theory_of
+at-requires c = let l = c.requires.accepted.1.laid in let h = head_low c.loop-l.invariant (λ z. omega arith) in let e = (value_of_lem c.links_from-from.ensures c.loop-l.l c.value-a.ensures (omega arith)) in let k = c.requires.accepted.1.ends in omega arith
+
+pub loop-l-smaller : goal.loop-l-smaller
+loop-l-smaller c = rw (next_of_lem c.links_from-from.ensures c.loop-l.l c.next-l.ensures (omega arith)) (chain_falls c.args.graph.now c.loop-l.invariant.once (λ z. omega arith))
+
+pub loop-l-preserved : goal.loop-l-preserved
+loop-l-preserved c = heads_next c.loop-l.invariant (λ z. omega arith) c.args.b c.args.work.now c.requires.accepted.2 (value_of_lem c.links_from-from.ensures c.loop-l.l c.value-a.ensures (omega arith)) c.at.ensures.0 (next_of_lem c.links_from-from.ensures c.loop-l.l c.next-l.ensures (omega arith))
+
+pub returns : goal.returns
+returns c = heads_end c.loop-l.invariant (omega arith)

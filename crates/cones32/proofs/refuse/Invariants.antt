@@ -1,0 +1,18 @@
+-- Written by tools/widen from crates/cones/proofs/refuse/Invariants.antt: edit that one.
+use mathlib.Core.Path.{◌≡◌}
+use mathlib.Core.Bool.{false, ◌&&◌}
+use Prim.Native.Nat.{ℕ, ◌-◌, ◌≤◌, ◌<◌}
+use native.Mathlib.Omega.{arith}
+use borrow.Author.Count.{below_none}
+use Rattle.theory.specs.Theory.{absorbed}
+use Rattle.theory.specs.Words.{theory_of}
+use Rattle.theory.specs.Edges.{body_cone}
+use Rattle.cones.proofs.RefuseLaws.{refuse_at, refuse_on, refuse_none}
+use borrow.Author.Rules.{rules}
+use Rattle.cones32.proofs.refuse.Given as goal
+
+abbrev pub invariant-loop-n : goal.invariant-loop-n
+invariant-loop-n l = (l.n ≤ l.b.nodes) × ((k : ℕ) → k < l.n → body_cone (theory_of l.graph) k && absorbed ((theory_of l.graph).kind k) ≡ false)
+
+abbrev pub decreases-loop-n : goal.decreases-loop-n
+decreases-loop-n l = l.b.nodes - l.n
