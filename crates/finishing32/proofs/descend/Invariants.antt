@@ -1,0 +1,11 @@
+-- Written by tools/widen from crates/finishing/proofs/descend/Invariants.antt: edit that one.
+use Rattle.finishing.specs.Walking.{ahead, Walked}
+use Rattle.finishing.proofs.DescentLaws.{walked_none, walked_on, root_entered, descended}
+use borrow.Author.Rules.{rules}
+use Rattle.finishing32.proofs.descend.Given as goal
+
+abbrev pub invariant-loop-top : goal.invariant-loop-top
+invariant-loop-top l = Walked l.graph l.b l.initial.work l.work l.top l.n
+
+abbrev pub decreases-loop-top : goal.decreases-loop-top
+decreases-loop-top l = ahead l.graph l.b l.work l.n
