@@ -27,11 +27,11 @@ fn main() {
         given
     };
     println!("cargo:rerun-if-changed={}", archive.display());
-    // A copy, since the gate removes target/ while this build may live on.
+    // A copy, since the archive may be made anew while this build lives on.
     let copy = Path::new(&out).join("libabi.a");
     if let Err(error) = fs::copy(&archive, &copy) {
         stop(&format!(
-            "no archive of the proved calls at {} ({error}). Run `rt staticlib abi` at the top of the repository, \
+            "no archive of the proved calls at {} ({error}). Run tools/archive at the top of the repository, \
              or set FOUNDED_ARCHIVE to libabi.a or to its directory",
             archive.display()
         ));

@@ -1,5 +1,5 @@
 //! The founded-support check: which atoms only hold each other up. The calls are proved, in Rattle, to answer on every input as docs/FORMAT.md says;
-//! this crate links them (`rt staticlib abi` makes the archive) and adds types. Atoms, nodes and producers are the states, conditions and rules
+//! this crate links them (`tools/archive` makes the archive) and adds types. Atoms, nodes and producers are the states, conditions and rules
 //! of a plan.
 //!
 //! The heater is on because the warm-bus latch is set, and the latch is set because the heater is on. Nothing else holds either up, so both are missing:

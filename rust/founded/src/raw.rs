@@ -1,7 +1,7 @@
 //! The calls as the archive has them: those on graphs of edition 1, in 16-bit words, and those on graphs of edition 2, in 32-bit words. `include/founded.h` says what each pointer must be and
 //! what each call answers and leaves.
 
-// SAFETY: these are the signatures of crates/abi, in which a slice crosses as a pointer and a length.
+// SAFETY: these are the signatures of crates/abi_c, in which a slice crosses as a pointer and a length.
 unsafe extern "C" {
     pub fn founded_check(graph: *const u16, graph_len: usize) -> u32;
 
