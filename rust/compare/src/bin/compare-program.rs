@@ -1,6 +1,6 @@
 //! The program against the papers: `compare-program PROGRAM SEED COUNT`.
 //!
-//! Runs PROGRAM, which is `founded_support` as `rt check` builds it, over the
+//! Runs PROGRAM, which is `founded_support` as `rt run` builds it, over the
 //! inputs of `compare::programs`, and holds what it prints to `paper`'s text. Its
 //! status must be 0, its standard error empty and its input read to the end.
 //! `compare-program` prints what was run, and ends with 1 at the first difference.
