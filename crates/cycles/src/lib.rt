@@ -114,7 +114,7 @@ fn cyclic(graph: &[u16], work: &mut [u16]) -> bool
     n < b.atoms + b.nodes
 }
 
-#[derive(Drop)]
+#[derive(Clone, Copy)]
 pub enum Need {
     No,
     Yes,

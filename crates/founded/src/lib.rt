@@ -13,7 +13,7 @@ use preparation::Marks;
 use refusals::Checked;
 
 // What each call answers. specs/Answers has the number and place of each.
-#[derive(Drop)]
+#[derive(Clone, Copy)]
 pub enum Prepared {
     Done,
     Refused(Checked),
@@ -22,7 +22,7 @@ pub enum Prepared {
     Absorbed(usize),
 }
 
-#[derive(Drop)]
+#[derive(Clone, Copy)]
 pub enum Completed {
     Done,
     Refused(Checked),

@@ -17,7 +17,7 @@ use graph::{
 };
 
 // What the check answers. specs/Refusals has the number and place of each.
-#[derive(Drop)]
+#[derive(Clone, Copy)]
 pub enum Checked {
     Accepted,
     Edition,

@@ -147,11 +147,11 @@ module _ {graph masks : List ℕ} {r : ℕ} (s : Split graph masks r) where
   pub rest_length : length (take (length masks - r) (drop r masks)) ≡ 8 * words_of (get_or graph 2 0)
   rest_length = rw (rest_all masks r, length-drop) (omega (arith, s.nodes))
 
-  pub atom_mask : words 8 (take r masks) ≡ atom_mask graph masks
-  atom_mask = rw s.atoms
+  pub atom_mask_lem : words 8 (take r masks) ≡ atom_mask graph masks
+  atom_mask_lem = rw s.atoms
 
-  pub node_mask : words 8 (take (length masks - r) (drop r masks)) ≡ node_mask graph masks
-  node_mask = rw (rest_all masks r, s.atoms)
+  pub node_mask_lem : words 8 (take (length masks - r) (drop r masks)) ≡ node_mask graph masks
+  node_mask_lem = rw (rest_all masks r, s.atoms)
 
 -- the same answers make the same text
 pub print_same : {answers others : ℕ → Answer} {both : List ℕ} {th : Theory} {old out : List ℕ} {r : ℕ} → ((p : ℕ) → answers p ≡ others p) → Printed others both th old out r → Printed answers both th old out r
