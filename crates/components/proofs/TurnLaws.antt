@@ -26,7 +26,7 @@ use Rattle.area.specs.Views.{mark_in, queued}
 use Rattle.events.proofs.VertexLaws.{tables_same}
 use Rattle.components.specs.Gathering.{Gathering}
 use Rattle.components.specs.Classes.{Classifying, Kept, Gathered, Searched, ordered, ctx_of}
-use Rattle.components.proofs.GatherLaws.{within, row_all, row_edges, ordered_same, left}
+use Rattle.components.proofs.GatherLaws.{row_all, row_edges, ordered_same, left}
 
 module _ {ws : List ℕ} {ed : Edition} (acc : Accepted ed ws) {b : Bases} {words : ℕ} (based : Based ws words b) {lim : ℕ} {w₀ w : List ℕ} (n found head tail : ℕ) (r : Searched lim ws b w₀ w n found head tail) where
   g : Gathering lim b (ctx_of ws b w₀ n found (between found (head - found) (drop b.queue w)) w tail) w tail []

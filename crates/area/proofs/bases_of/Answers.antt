@@ -1,6 +1,5 @@
 use Rattle.area.specs.Layout.{entries_in}
 use Rattle.area.proofs.LayoutLaws.{based}
-use borrow.Author.Rules.{rules}
 use Rattle.area.proofs.bases_of.Goals as goal
 
 pub returns : goal.returns

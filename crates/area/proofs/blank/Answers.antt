@@ -1,10 +1,7 @@
-use Prim.Native.Nat.{◌-◌, ◌≤◌}
 use native.Mathlib.Nat.{not-suc-le-zero}
 use native.Mathlib.Omega.{arith}
-use lib.ListN.{length}
 use borrow.Author.Tests.{eqb-true}
-use Rattle.area.proofs.WipeLaws.{BlankTo, blank_more, all_blank}
-use borrow.Author.Rules.{rules}
+use Rattle.area.proofs.WipeLaws.{blank_more, all_blank}
 use Rattle.area.proofs.blank.Goals as goal
 
 pub loop-j-init : goal.loop-j-init

@@ -1,10 +1,6 @@
 use Prim.Native.Nat.{◌-◌, ◌≤◌}
-use native.Mathlib.Nat.{not-suc-le-zero}
-use native.Mathlib.Omega.{arith}
 use lib.ListN.{length}
-use borrow.Author.Tests.{eqb-true}
-use Rattle.area.proofs.WipeLaws.{BlankTo, blank_more, all_blank}
-use borrow.Author.Rules.{rules}
+use Rattle.area.proofs.WipeLaws.{BlankTo}
 use Rattle.area.proofs.blank.Given as goal
 
 abbrev pub invariant-loop-j : goal.invariant-loop-j

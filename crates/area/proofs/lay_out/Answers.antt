@@ -1,7 +1,6 @@
 use mathlib.Core.Path.{refl}
 use native.Mathlib.Omega.{arith}
 use Rattle.area.specs.Layout.{lay_out}
-use borrow.Author.Rules.{rules}
 use Rattle.area.proofs.lay_out.Goals as goal
 
 pub returns : goal.returns

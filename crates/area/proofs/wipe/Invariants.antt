@@ -1,10 +1,6 @@
-use mathlib.Core.Path.{◌≡◌, refl, sym, ◌∙◌}
-use Prim.Native.Nat.{◌+◌, ◌-◌, ◌≤◌}
-use native.Mathlib.Omega.{arith}
+use mathlib.Core.Path.{◌≡◌}
+use Prim.Native.Nat.{◌-◌, ◌≤◌}
 use lib.ListN.{length, take, replicate}
-use lib.Seq.{take_all}
-use Rattle.area.proofs.WipeLaws.{wiped_part}
-use borrow.Author.Rules.{rules}
 use Rattle.area.proofs.wipe.Given as goal
 
 abbrev pub invariant-loop-from : goal.invariant-loop-from

@@ -1,4 +1,3 @@
-use borrow.Author.Rules.{rules}
 use Rattle.area.proofs.wipe_block.Goals as goal
 
 pub returns-then-blank : goal.returns-then-blank

@@ -1,9 +1,4 @@
-use mathlib.Core.Path.{◌≡◌, ◌∙◌}
-use Prim.Native.Nat.{◌+◌, ◌-◌}
-use native.Mathlib.Omega.{arith}
 use Rattle.components.specs.Classes.{Sweeping}
-use Rattle.components.proofs.FlagLaws.{component_of, classified, sweep_on}
-use borrow.Author.Rules.{rules}
 use Rattle.components.proofs.classify.Given as goal
 
 abbrev pub invariant-loop-n : goal.invariant-loop-n

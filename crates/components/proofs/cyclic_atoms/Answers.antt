@@ -1,6 +1,5 @@
 use Rattle.area.proofs.FillLaws.{filled}
 use Rattle.components.proofs.StartLaws.{flags_part, sizes, sweep_begin, sweep_finish}
-use borrow.Author.Rules.{rules}
 use Rattle.components.proofs.cyclic_atoms.Goals as goal
 
 pub classify-requires : goal.classify-requires

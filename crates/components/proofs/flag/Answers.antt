@@ -1,6 +1,5 @@
-use Prim.Native.Nat.{◌-◌}
 use native.Mathlib.Omega.{arith}
-use Rattle.components.proofs.FlagLaws.{Flagging, flagging_start, flagging_low, flagging_next, flagging_end, alone_end}
+use Rattle.components.proofs.FlagLaws.{flagging_start, flagging_low, flagging_next, flagging_end, alone_end}
 use Rattle.components.proofs.flag.Goals as goal
 
 pub overflow_add-from : goal.overflow_add-from

@@ -1,9 +1,5 @@
-use mathlib.Core.Path.{◌≡◌}
 use Prim.Native.Nat.{◌+◌, ◌-◌}
-use native.Mathlib.Omega.{arith}
 use Rattle.components.specs.Classes.{Searched}
-use Rattle.components.proofs.TurnLaws.{tail_low, head_low, turn_follows, turn_next}
-use Rattle.events.proofs.VertexLaws.{tables_same}
 use Rattle.components.proofs.follow.Given as goal
 
 abbrev pub invariant-loop-head : goal.invariant-loop-head

@@ -1,6 +1,5 @@
 use Rattle.area.proofs.FillLaws.{filled}
 use Rattle.cones.proofs.BeginLaws.{marks_part, cleared_kept, cleared_marks}
-use borrow.Author.Rules.{rules}
 use Rattle.cones.proofs.clear_marks.Goals as goal
 
 pub returns : goal.returns

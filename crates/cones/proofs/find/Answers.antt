@@ -1,5 +1,4 @@
 use Rattle.area.proofs.LayoutLaws.{room}
-use borrow.Author.Rules.{rules}
 use Rattle.cones.proofs.find.Goals as goal
 
 pub bases_of-requires : goal.bases_of-requires

@@ -1,9 +1,5 @@
 use mathlib.Core.Path.{◌≡◌, refl}
-use Prim.Native.Nat.{◌-◌, ◌≤◌}
 use native.Mathlib.Omega.{arith}
-use lib.ListN.{length}
-use Rattle.theory.specs.Words.{theory_of}
-use Rattle.cycles.specs.Held.{Started}
 use Rattle.cycles.proofs.LoopLaws.{node_place, node_fits, node_counted}
 use borrow.Author.Rules.{rules}
 use Rattle.cycles.proofs.count_nodes.Goals as goal

@@ -1,10 +1,7 @@
 use mathlib.Core.Path.{◌≡◌}
-use mathlib.Core.Logic.{⊎_elim}
-use Prim.Native.Nat.{◌+◌, ◌-◌, ◌≤◌}
+use Prim.Native.Nat.{◌+◌}
 use native.Mathlib.Omega.{arith}
-use Rattle.cycles.specs.Held.{Looked}
 use Rattle.cycles.proofs.LoopLaws.{look_start, look_room, looked, added}
-use borrow.Author.Rules.{rules}
 use Rattle.cycles.proofs.look_all.Goals as goal
 use Rattle.cycles.proofs.look_all.Goals.{then-get-eq0, else-get-eq0}
 
@@ -35,8 +32,8 @@ overflow_add-v c = let l = c.requires.0 in let g = c.requires.1 in let s = c.loo
 pub loop-v-preserved : goal.loop-v-preserved
 loop-v-preserved c =
     elim c.if-get-eq0.branch [
-      then-get-eq0 w ↦ (omega arith, rw (w.work-is, w.tail-is, w.put.ensures) (added c.loop-v.invariant.1 c.requires.0 c.requires.1 c.loop-v-test.true c.get.ensures w.if-get-eq0.true))
-    | else-get-eq0 w ↦ (omega arith, rw (w.work-is, w.tail-is) (looked c.loop-v.invariant.1 c.requires.0 c.requires.1 c.loop-v-test.true c.get.ensures w.if-get-eq0.false))
+      | then-get-eq0 w ↦ (omega arith, rw (w.work-is, w.tail-is, w.put.ensures) (added c.loop-v.invariant.1 c.requires.0 c.requires.1 c.loop-v-test.true c.get.ensures w.if-get-eq0.true))
+      | else-get-eq0 w ↦ (omega arith, rw (w.work-is, w.tail-is) (looked c.loop-v.invariant.1 c.requires.0 c.requires.1 c.loop-v-test.true c.get.ensures w.if-get-eq0.false))
     ]
 
 pub returns : goal.returns

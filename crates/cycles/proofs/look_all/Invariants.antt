@@ -1,10 +1,5 @@
-use mathlib.Core.Path.{◌≡◌}
-use mathlib.Core.Logic.{⊎_elim}
 use Prim.Native.Nat.{◌+◌, ◌-◌, ◌≤◌}
-use native.Mathlib.Omega.{arith}
 use Rattle.cycles.specs.Held.{Looked}
-use Rattle.cycles.proofs.LoopLaws.{look_start, look_room, looked, added}
-use borrow.Author.Rules.{rules}
 use Rattle.cycles.proofs.look_all.Given as goal
 
 abbrev pub invariant-loop-v : goal.invariant-loop-v

@@ -1,6 +1,4 @@
 use mathlib.Core.Path.{◌≡◌, sym, ◌∙◌, ap}
-use mathlib.Core.List.{[], ◌∷◌}
-use types.Run.{miss}
 use lib.ListN.{length, replicate}
 use Rattle.refusals.specs.Refusals.{answer_of}
 use Rattle.refusals.proofs.AcceptedLaws.{accepted}

@@ -1,5 +1,4 @@
 use native.Mathlib.Omega.{arith}
-use borrow.Author.Rules.{rules}
 use Rattle.events.proofs.visit_body.Goals as goal
 
 pub row_start-from-requires : goal.row_start-from-requires

@@ -1,6 +1,4 @@
-use Rattle.finishing.specs.Walking.{ahead, Walked}
 use Rattle.finishing.proofs.DescentLaws.{walked_none, walked_on, root_entered, descended}
-use borrow.Author.Rules.{rules}
 use Rattle.finishing.proofs.descend.Goals as goal
 
 pub enter-top-requires : goal.enter-top-requires

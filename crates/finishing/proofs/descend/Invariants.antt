@@ -1,6 +1,4 @@
 use Rattle.finishing.specs.Walking.{ahead, Walked}
-use Rattle.finishing.proofs.DescentLaws.{walked_none, walked_on, root_entered, descended}
-use borrow.Author.Rules.{rules}
 use Rattle.finishing.proofs.descend.Given as goal
 
 abbrev pub invariant-loop-top : goal.invariant-loop-top

@@ -1,5 +1,4 @@
 use Rattle.founded.specs.Answers.{bad_lengths}
-use borrow.Author.Rules.{rules}
 use Rattle.founded.proofs.bad_lengths.Goals as goal
 
 pub returns-then-bad_mask : goal.returns-then-bad_mask

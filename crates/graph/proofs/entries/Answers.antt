@@ -1,8 +1,6 @@
 use native.Mathlib.Omega.{arith}
-use lib.ListN.{length}
-use Rattle.theory.specs.Words.{chain}
 use Rattle.graph.proofs.DecodeLaws.{link_in, next_of_lem}
-use Rattle.graph.proofs.FollowLaws.{Counted, counted_none, counted_end, counted_few, counted_less, counted_next}
+use Rattle.graph.proofs.FollowLaws.{counted_none, counted_end, counted_few, counted_less, counted_next}
 use Rattle.graph.proofs.entries.Goals as goal
 
 pub links_from-from-requires : goal.links_from-from-requires

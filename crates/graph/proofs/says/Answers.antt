@@ -1,4 +1,3 @@
-use borrow.Author.Rules.{rules}
 use Rattle.graph.proofs.KindLaws.{table_says}
 use Rattle.graph.proofs.says.Goals as goal
 

@@ -1,5 +1,4 @@
 use Rattle.graph.specs.Layout.{value_in}
-use borrow.Author.Rules.{rules}
 use Rattle.graph.proofs.value_at.Goals as goal
 
 pub returns : goal.returns

@@ -1,10 +1,6 @@
-use mathlib.Core.Path.{◌≡◌}
 use Prim.Native.Nat.{◌+◌, ◌-◌, ◌≤◌}
-use native.Mathlib.Omega.{arith}
 use Rattle.theory.specs.Words.{bit_at}
 use Rattle.initialization.specs.Start.{Filled}
-use Rattle.initialization.proofs.FillLaws.{filled_none, filled_more}
-use borrow.Author.Rules.{rules}
 use Rattle.initialization.proofs.first_counts.Given as goal
 
 abbrev pub invariant-loop-v : goal.invariant-loop-v

@@ -1,6 +1,5 @@
 use Rattle.theory.specs.Words.{bit_at}
 use Rattle.initialization.proofs.StartLaws.{based_filled, prepared_filled, facts_follow, based_stated, prepared_stated, nodes_follow, begun}
-use borrow.Author.Rules.{rules}
 use Rattle.initialization.proofs.start.Goals as goal
 
 pub activate_facts-tail-requires : goal.activate_facts-tail-requires

@@ -1,6 +1,5 @@
 use native.Mathlib.Omega.{arith}
 use Rattle.initialization.proofs.StartLaws.{node_ready, node_fits, inactive_rests, true_pushes, awaiting_pushes, awaiting_waits, awaiting_fits}
-use borrow.Author.Rules.{rules}
 use Rattle.initialization.proofs.start_node.Goals as goal
 
 pub overflow_add-b : goal.overflow_add-b

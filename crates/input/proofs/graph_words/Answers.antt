@@ -1,8 +1,8 @@
-use mathlib.Core.Path.{◌≡◌, refl}
-use Prim.Native.Nat.{◌-◌, ◌/◌, ◌≤◌}
+use mathlib.Core.Path.{refl}
+use Prim.Native.Nat.{◌/◌}
 use native.Mathlib.Omega.{arith}
-use lib.ListN.{length, take}
-use Rattle.input.specs.Bytes.{tabulate, word_at}
+use lib.ListN.{length}
+use Rattle.input.specs.Bytes.{word_at}
 use Rattle.input.proofs.ByteLaws.{fill_start, fill_next, fill_whole}
 use borrow.Author.Rules.{rules}
 use Rattle.input.proofs.graph_words.Goals as goal

@@ -1,10 +1,7 @@
-use mathlib.Core.Path.{◌≡◌, refl}
-use Prim.Native.Nat.{◌-◌, ◌/◌, ◌≤◌}
-use native.Mathlib.Omega.{arith}
+use mathlib.Core.Path.{◌≡◌}
+use Prim.Native.Nat.{◌-◌, ◌≤◌}
 use lib.ListN.{length, take}
 use Rattle.input.specs.Bytes.{tabulate, word_at}
-use Rattle.input.proofs.ByteLaws.{fill_start, fill_next, fill_whole}
-use borrow.Author.Rules.{rules}
 use Rattle.input.proofs.mask_words.Given as goal
 
 abbrev pub invariant-loop-i : goal.invariant-loop-i

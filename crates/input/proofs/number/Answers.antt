@@ -1,7 +1,6 @@
 use mathlib.Core.Path.{◌≡◌}
 use native.Mathlib.Omega.{arith}
-use Rattle.input.proofs.ByteLaws.{Read, read_none, read_small, read_next, read_all}
-use borrow.Author.Rules.{rules}
+use Rattle.input.proofs.ByteLaws.{read_none, read_small, read_next, read_all}
 use Rattle.input.proofs.number.Goals as goal
 
 pub loop-i-init : goal.loop-i-init

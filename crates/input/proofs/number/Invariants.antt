@@ -1,7 +1,4 @@
-use mathlib.Core.Path.{◌≡◌}
-use native.Mathlib.Omega.{arith}
-use Rattle.input.proofs.ByteLaws.{Read, read_none, read_small, read_next, read_all}
-use borrow.Author.Rules.{rules}
+use Rattle.input.proofs.ByteLaws.{Read}
 use Rattle.input.proofs.number.Given as goal
 
 abbrev pub invariant-loop-i : goal.invariant-loop-i

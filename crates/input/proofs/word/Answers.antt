@@ -4,7 +4,6 @@ use native.Mathlib.Omega.{arith}
 use lib.ListN.{length}
 use Rattle.input.specs.Bytes.{word_at}
 use Rattle.input.proofs.ByteLaws.{tabulate_at}
-use borrow.Author.Rules.{rules}
 use Rattle.input.proofs.word.Goals as goal
 
 pub returns : goal.returns

@@ -1,11 +1,8 @@
-use mathlib.Core.Path.{◌≡◌, ◌∙◌}
+use mathlib.Core.Path.{◌≡◌}
 use mathlib.Core.List.{◌++◌}
 use Prim.Native.Nat.{◌≤◌, ◌-◌}
-use native.Mathlib.Omega.{arith}
 use lib.ListN.{length, drop}
 use Rattle.mask.specs.Mask.{mask_of, flagged}
-use Rattle.mask.proofs.MaskLaws.{mask_more, mask_whole, flags_pack}
-use borrow.Author.Rules.{rules}
 use Rattle.mask.proofs.pack_flags.Given as goal
 
 abbrev pub invariant-loop-w : goal.invariant-loop-w

@@ -1,5 +1,4 @@
 use Rattle.preparation.proofs.RowsLaws.{rowed}
-use borrow.Author.Rules.{rules}
 use Rattle.preparation.proofs.build_rows.Goals as goal
 
 pub build_in-requires-2 : goal.build_in-requires-2

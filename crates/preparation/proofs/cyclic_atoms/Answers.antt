@@ -1,6 +1,5 @@
 use mathlib.Core.Path.{sym}
 use Rattle.preparation.proofs.StageLaws.{marked_staged}
-use borrow.Author.Rules.{rules}
 use Rattle.preparation.proofs.cyclic_atoms.Goals as goal
 
 pub mark-requires : goal.mark-requires

@@ -1,6 +1,5 @@
 use mathlib.Core.Path.{sym}
 use Rattle.preparation.proofs.StageLaws.{ready_pass, listed_refused, listed_done}
-use borrow.Author.Rules.{rules}
 use Rattle.preparation.proofs.missing.Goals as goal
 
 pub mark-requires : goal.mark-requires

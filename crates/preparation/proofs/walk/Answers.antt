@@ -1,6 +1,5 @@
 use Rattle.area.proofs.FillLaws.{filled}
 use Rattle.preparation.proofs.WalkLaws.{atoms_part, ready₁, tables₁, marked₁, marking₁}
-use borrow.Author.Rules.{rules}
 use Rattle.preparation.proofs.walk.Goals as goal
 
 pub cyclic_atoms-requires : goal.cyclic_atoms-requires

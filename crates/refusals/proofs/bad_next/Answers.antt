@@ -1,6 +1,5 @@
 use mathlib.Core.Path.{refl}
 use Rattle.refusals.specs.Refusals.{bad_next}
-use borrow.Author.Rules.{rules}
 use Rattle.refusals.proofs.bad_next.Goals as goal
 
 pub returns : goal.returns

@@ -1,10 +1,6 @@
-use native.Mathlib.Omega.{arith}
 use Prim.Native.Nat.{◌≤◌, ◌-◌}
 use Rattle.refusals.specs.Search.{Clear}
 use Rattle.refusals.specs.Refusals.{bad_node}
-use Rattle.refusals.proofs.SearchLaws.{clear_none, clear_more, first_found, first_none}
-use Rattle.refusals.proofs.RowLaws.{node_told}
-use borrow.Author.Rules.{rules}
 use Rattle.refusals.proofs.bad_node.Given as goal
 
 abbrev pub invariant-loop-n : goal.invariant-loop-n

@@ -1,6 +1,5 @@
 use mathlib.Core.Path.{refl}
 use Rattle.refusals.specs.Refusals.{bad_operand}
-use borrow.Author.Rules.{rules}
 use Rattle.refusals.proofs.bad_operand.Goals as goal
 
 pub returns-then-takes_operand : goal.returns-then-takes_operand

@@ -1,6 +1,5 @@
 use mathlib.Core.Path.{refl}
 use Rattle.refusals.specs.Refusals.{bad_size}
-use borrow.Author.Rules.{rules}
 use Rattle.refusals.proofs.bad_size.Goals as goal
 
 pub returns : goal.returns

@@ -2,7 +2,6 @@ use mathlib.Core.Path.{ap, ◌∙◌}
 use Prim.Native.Nat.{ℕ, ◌*◌}
 use Rattle.mask.specs.Mask.{words_of}
 use Rattle.report.proofs.CallLaws.{accepted_few, masks_split}
-use borrow.Author.Rules.{rules}
 use Rattle.report.proofs.atom_bytes.Goals as goal
 
 pub atoms-requires : goal.atoms-requires

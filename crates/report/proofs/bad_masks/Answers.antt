@@ -1,6 +1,5 @@
 use Rattle.report.specs.Report.{bad_masks}
 use Rattle.report.proofs.CallLaws.{accepted_few}
-use borrow.Author.Rules.{rules}
 use Rattle.report.proofs.bad_masks.Goals as goal
 
 pub atoms-requires : goal.atoms-requires

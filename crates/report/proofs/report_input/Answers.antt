@@ -3,7 +3,6 @@ use native.Mathlib.Omega.{arith}
 use lib.Seq.{length-take-le}
 use Rattle.input.proofs.ByteLaws.{rest_all}
 use Rattle.report.proofs.InputLaws.{report_whole}
-use borrow.Author.Rules.{rules}
 use Rattle.report.proofs.report_input.Goals as goal
 
 pub slice_bounds-graph_words-end : goal.slice_bounds-graph_words-end

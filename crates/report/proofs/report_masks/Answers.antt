@@ -1,7 +1,6 @@
 use mathlib.Core.Path.{sym, ◌∙◌}
 use native.Mathlib.Omega.{arith}
 use Rattle.report.proofs.CallLaws.{front_length, rest_length, atom_mask_lem, node_mask_lem, answer_row, print_same}
-use borrow.Author.Rules.{rules}
 use Rattle.report.proofs.report_masks.Goals as goal
 
 pub atom_bytes-from-requires : goal.atom_bytes-from-requires

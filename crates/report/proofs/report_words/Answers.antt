@@ -2,7 +2,6 @@ use mathlib.Core.Path.{refl, sym, ◌∙◌}
 use native.Mathlib.Omega.{arith}
 use lib.Seq.{length-take-le}
 use Rattle.report.proofs.CallLaws.{accepted_few}
-use borrow.Author.Rules.{rules}
 use Rattle.report.proofs.report_words.Goals as goal
 
 pub slice_bounds-output-end : goal.slice_bounds-output-end

@@ -1,12 +1,9 @@
 use Rattle.mask.proofs.BitLaws.{digit_small}
 use mathlib.Core.Path.{◌≡◌, refl}
-use Prim.Native.Nat.{◌-◌, ◌≤◌}
 use native.Mathlib.Omega.{arith}
-use lib.ListN.{length}
 use Rattle.theory.specs.Sets.{members}
 use Rattle.theory.specs.Words.{bit_at}
 use Rattle.text.proofs.TextLaws.{count_next, count_few}
-use borrow.Author.Rules.{rules}
 use Rattle.text.proofs.count.Goals as goal
 
 pub loop-i-init : goal.loop-i-init

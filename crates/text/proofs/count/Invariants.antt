@@ -1,12 +1,8 @@
-use Rattle.mask.proofs.BitLaws.{digit_small}
-use mathlib.Core.Path.{◌≡◌, refl}
+use mathlib.Core.Path.{◌≡◌}
 use Prim.Native.Nat.{◌-◌, ◌≤◌}
-use native.Mathlib.Omega.{arith}
 use lib.ListN.{length}
 use Rattle.theory.specs.Sets.{members}
 use Rattle.theory.specs.Words.{bit_at}
-use Rattle.text.proofs.TextLaws.{count_next, count_few}
-use borrow.Author.Rules.{rules}
 use Rattle.text.proofs.count.Given as goal
 
 abbrev pub invariant-loop-i : goal.invariant-loop-i

@@ -2,7 +2,6 @@ use mathlib.Core.Path.{◌≡◌, sym, ◌∙◌}
 use mathlib.Core.Bool.{true, false}
 use Rattle.theory.specs.Words.{bit_at}
 use Rattle.text.proofs.TextLaws.{spaced_none, spaced_only, append_none}
-use borrow.Author.Rules.{rules}
 use Rattle.text.proofs.put_bit.Goals as goal
 
 pub returns-then-bit : goal.returns-then-bit

@@ -1,12 +1,8 @@
 use mathlib.Core.Path.{◌≡◌, refl, ◌∙◌}
-use Prim.Native.Nat.{◌-◌, ◌<◌, ◌≤◌}
+use Prim.Native.Nat.{◌<◌}
 use native.Mathlib.Omega.{arith}
-use lib.ListN.{length}
-use Rattle.theory.specs.Sets.{members}
 use Rattle.theory.specs.Words.{bit_at}
-use Rattle.text.specs.Text.{spaced, Appended}
 use Rattle.text.proofs.TextLaws.{decimal_four, spaced_few, append_members, append_no_members}
-use borrow.Author.Rules.{rules}
 use Rattle.text.proofs.put_bits.Goals as goal
 
 pub loop-i-init : goal.loop-i-init

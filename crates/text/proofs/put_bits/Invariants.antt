@@ -1,12 +1,9 @@
-use mathlib.Core.Path.{◌≡◌, refl, ◌∙◌}
-use Prim.Native.Nat.{◌-◌, ◌<◌, ◌≤◌}
-use native.Mathlib.Omega.{arith}
+use mathlib.Core.Path.{◌≡◌}
+use Prim.Native.Nat.{◌-◌, ◌≤◌}
 use lib.ListN.{length}
 use Rattle.theory.specs.Sets.{members}
 use Rattle.theory.specs.Words.{bit_at}
 use Rattle.text.specs.Text.{spaced, Appended}
-use Rattle.text.proofs.TextLaws.{decimal_four, spaced_few, append_members, append_no_members}
-use borrow.Author.Rules.{rules}
 use Rattle.text.proofs.put_bits.Given as goal
 
 abbrev pub invariant-loop-i : goal.invariant-loop-i

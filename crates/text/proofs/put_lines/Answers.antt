@@ -1,6 +1,5 @@
 use native.Mathlib.Omega.{arith}
 use Rattle.text.proofs.TextLaws.{append_then, loops_short}
-use borrow.Author.Rules.{rules}
 use Rattle.text.proofs.put_lines.Goals as goal
 
 pub put_missing-requires : goal.put_missing-requires

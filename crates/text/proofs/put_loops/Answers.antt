@@ -1,4 +1,3 @@
-use borrow.Author.Rules.{rules}
 use Rattle.text.proofs.put_loops.Goals as goal
 
 pub returns-then-cycle : goal.returns-then-cycle

@@ -4,7 +4,6 @@ use Rattle.theory.specs.Sets.{members}
 use Rattle.theory.specs.Words.{bit_at}
 use Rattle.text.specs.Text.{missing_word}
 use Rattle.text.proofs.TextLaws.{decimal_four, count_few, spaced_few, append_list}
-use borrow.Author.Rules.{rules}
 use Rattle.text.proofs.put_missing.Goals as goal
 
 pub put_spaced-first-requires : goal.put_spaced-first-requires

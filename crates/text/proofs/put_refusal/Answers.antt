@@ -3,7 +3,6 @@ use Prim.Native.Nat.{◌<◌}
 use native.Mathlib.Omega.{arith}
 use Rattle.text.specs.Text.{refused_word, Appended}
 use Rattle.text.proofs.TextLaws.{decimal_five, append_word, append_number, append_line}
-use borrow.Author.Rules.{rules}
 use Rattle.text.proofs.put_refusal.Goals as goal
 
 pub put_spaced-first-requires : goal.put_spaced-first-requires

@@ -1,5 +1,4 @@
 use Rattle.text.proofs.TextLaws.{append_then}
-use borrow.Author.Rules.{rules}
 use Rattle.text.proofs.put_spaced.Goals as goal
 
 pub returns : goal.returns
