@@ -1,0 +1,41 @@
+-- Written by tools/widen from crates/components/proofs/collecting/collect_heads/Answers.antt: edit that one.
+use mathlib.Core.Path.{◌≡◌, refl}
+use mathlib.Core.List.{[], ◌∷◌}
+use native.Mathlib.Omega.{arith}
+use lib.ListN.{length}
+use Rattle.theory.specs.Words.{theory_of, chain}
+use Rattle.theory.specs.Links.{MeetsOnce}
+use Rattle.theory.specs.Drive.{Drives}
+use Rattle.theory.proofs.ChainLaws.{once_next, chain_end, chain_falls}
+use Rattle.theory.proofs.DriveLaws.{drives_none, turn_next, turn_more, chain_turn}
+use Rattle.graph.proofs.DecodeLaws.{the_heads, value_of_lem, next_of_lem, link_in}
+use Rattle.components.specs.Gathering.{Gathering}
+use borrow.Author.Rules.{rules}
+use Rattle.components32.proofs.collecting.collect_heads.Goals as goal
+
+pub links_from-from-requires : goal.links_from-from-requires
+links_from-from-requires c = c.requires.accepted.0.size
+
+pub first_head-l-requires : goal.first_head-l-requires
+first_head-l-requires c = record { size = c.requires.accepted.0.size; below = c.requires.accepted.1 }
+
+pub loop-l-init : goal.loop-l-init
+loop-l-init c = (rw c.first_head-l.ensures (c.requires.accepted.0.head_chain c.args.p c.requires.accepted.1), rw (c.first_head-l.ensures, ← the_heads c.args.graph.now c.args.p) (drives_none (Gathering 4294967296 c.args.b)))
+
+pub value-v-requires : goal.value-v-requires
+value-v-requires c = link_in c.links_from-from.ensures c.requires.accepted.0 c.loop-l.invariant.0 (omega arith)
+
+pub next-l-requires : goal.next-l-requires
+next-l-requires c = link_in c.links_from-from.ensures c.requires.accepted.0 c.loop-l.invariant.0 (omega arith)
+
+pub collect-t-requires : goal.collect-t-requires
+collect-t-requires c = turn_next (Gathering 4294967296 c.args.b) (λ l. l) (λ x. x ∷ []) (λ x l. refl) c.loop-l.invariant.1 (chain_turn c.args.graph.now c.loop-l.invariant.0 (omega arith) (value_of_lem c.links_from-from.ensures c.loop-l.l c.value-v.ensures (omega arith)) refl) c.requires.follows
+
+pub loop-l-smaller : goal.loop-l-smaller
+loop-l-smaller c = rw (next_of_lem c.links_from-from.ensures c.loop-l.l c.next-l.ensures (omega arith)) (chain_falls c.args.graph.now c.loop-l.invariant.0 (omega arith))
+
+pub loop-l-preserved : goal.loop-l-preserved
+loop-l-preserved c = rw (next_of_lem c.links_from-from.ensures c.loop-l.l c.next-l.ensures (omega arith)) (once_next c.args.graph.now c.loop-l.invariant.0 (omega arith), turn_more (Gathering 4294967296 c.args.b) (λ l. l) (λ x. x ∷ []) (λ x l. refl) c.loop-l.invariant.1 (chain_turn c.args.graph.now c.loop-l.invariant.0 (omega arith) (value_of_lem c.links_from-from.ensures c.loop-l.l c.value-v.ensures (omega arith)) refl) c.collect-t.ensures)
+
+pub returns : goal.returns
+returns c = let z : c.loop-l.l ≡ 0 = omega arith in rw (z, chain_end c.args.graph.now) at c.loop-l.invariant.1

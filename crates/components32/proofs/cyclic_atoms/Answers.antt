@@ -1,0 +1,15 @@
+-- Written by tools/widen from crates/components/proofs/cyclic_atoms/Answers.antt: edit that one.
+use Rattle.area.proofs.FillLaws.{filled}
+use Rattle.components.proofs.StartLaws.{flags_part, sizes, sweep_begin, sweep_finish}
+use borrow.Author.Rules.{rules}
+use Rattle.components32.proofs.cyclic_atoms.Goals as goal
+
+pub classify-requires : goal.classify-requires
+classify-requires c =
+    let f = filled (flags_part c.requires.0 c.requires.1.based c.requires.2 c.finish_order-count.ensures) c.clear.ensures in
+    (c.requires.0, rw (sizes c.requires.0 c.requires.1.based c.requires.2 c.finish_order-count.ensures f) c.requires.1.based, sweep_begin c.requires.0 c.requires.1.based c.requires.2 c.finish_order-count.ensures f)
+
+pub returns : goal.returns
+returns c =
+    let f = filled (flags_part c.requires.0 c.requires.1.based c.requires.2 c.finish_order-count.ensures) c.clear.ensures in
+    sweep_finish c.requires.0 c.requires.1.based c.requires.2 c.finish_order-count.ensures f c.classify.ensures

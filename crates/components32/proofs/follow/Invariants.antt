@@ -1,0 +1,14 @@
+-- Written by tools/widen from crates/components/proofs/follow/Invariants.antt: edit that one.
+use mathlib.Core.Path.{◌≡◌}
+use Prim.Native.Nat.{◌+◌, ◌-◌}
+use native.Mathlib.Omega.{arith}
+use Rattle.components.specs.Classes.{Searched}
+use Rattle.components.proofs.TurnLaws.{tail_low, head_low, turn_follows, turn_next}
+use Rattle.events.proofs.VertexLaws.{tables_same}
+use Rattle.components32.proofs.follow.Given as goal
+
+abbrev pub invariant-loop-head : goal.invariant-loop-head
+invariant-loop-head l = Searched 4294967296 l.graph l.b l.initial.work l.work l.n l.found l.head l.tail
+
+abbrev pub decreases-loop-head : goal.decreases-loop-head
+decreases-loop-head l = l.b.atoms + l.b.nodes - l.head

@@ -1,0 +1,37 @@
+-- Written by tools/widen from crates/cycles/proofs/count_all/Answers.antt: edit that one.
+use mathlib.Core.Path.{◌≡◌, sym, ◌∙◌}
+use mathlib.Core.List.{[]}
+use Prim.Native.Nat.{◌-◌, ◌≤◌}
+use native.Mathlib.Omega.{arith}
+use lib.ListN.{length}
+use Rattle.theory.specs.Words.{theory_of}
+use Rattle.graph.proofs.DecodeLaws.{the_producers}
+use Rattle.cycles.specs.Held.{Counting}
+use Rattle.cycles.proofs.LoopLaws.{count_start}
+use borrow.Author.Rules.{rules}
+use Rattle.cycles32.proofs.count_all.Goals as goal
+
+pub producers-end-requires : goal.producers-end-requires
+producers-end-requires c = let s = c.requires.0.size in omega arith
+
+pub loop-p-init : goal.loop-p-init
+loop-p-init c = (search rules, omega arith, count_start c.count_nodes.ensures)
+
+pub count_heads-requires : goal.count_heads-requires
+count_heads-requires c =
+    let e = c.producers-end.ensures ∙ sym (the_producers c.args.graph.now) in
+    (c.requires.0, omega arith, c.loop-p.invariant.2)
+
+pub overflow_add-p : goal.overflow_add-p
+overflow_add-p c = let h = c.loop-p.invariant.1 in let q = c.requires.0.producers_few in omega arith
+
+pub loop-p-smaller : goal.loop-p-smaller
+loop-p-smaller c = let e = c.producers-end.ensures ∙ sym (the_producers c.args.graph.now) in omega arith
+
+pub loop-p-preserved : goal.loop-p-preserved
+loop-p-preserved c = (search rules, c.count_heads.ensures.begun, c.count_heads.ensures)
+
+pub returns : goal.returns
+returns c =
+    let e = c.producers-end.ensures ∙ sym (the_producers c.args.graph.now) in
+    let q : c.loop-p.p ≡ (theory_of c.args.graph.now).producers = let h = c.loop-p.invariant.1 in omega arith in rw q at c.loop-p.invariant.2
