@@ -1,0 +1,16 @@
+-- Written by tools/widen from crates/preparation/proofs/build_rows/Answers.antt: edit that one.
+use Rattle.preparation.proofs.RowsLaws.{rowed}
+use borrow.Author.Rules.{rules}
+use Rattle.preparation32.proofs.build_rows.Goals as goal
+
+pub build_in-requires-2 : goal.build_in-requires-2
+build_in-requires-2 c = (c.requires.0, rw c.build_in.ensures.size c.requires.1)
+
+pub build_in-requires-3 : goal.build_in-requires-3
+build_in-requires-3 c = (c.requires.0, rw (c.build_in-2.ensures.size, c.build_in.ensures.size) c.requires.1)
+
+pub build_in-requires-4 : goal.build_in-requires-4
+build_in-requires-4 c = (c.requires.0, rw (c.build_in-3.ensures.size, c.build_in-2.ensures.size, c.build_in.ensures.size) c.requires.1)
+
+pub returns : goal.returns
+returns c = rowed c.requires.1 c.build_in.ensures c.build_in-2.ensures c.build_in-3.ensures c.build_in-4.ensures

@@ -1,0 +1,11 @@
+-- Written by tools/widen from crates/preparation/proofs/cyclic_atoms/Answers.antt: edit that one.
+use mathlib.Core.Path.{sym}
+use Rattle.preparation.proofs.StageLaws.{marked_staged}
+use borrow.Author.Rules.{rules}
+use Rattle.preparation32.proofs.cyclic_atoms.Goals as goal
+
+pub mark-requires : goal.mark-requires
+mark-requires c = rw (sym c.requires.1.is) (c.requires)
+
+pub returns : goal.returns
+returns c = marked_staged _ _ _ _ c.mark.result (rw (sym c.requires.1.is) at c.mark.ensures)
