@@ -1,4 +1,4 @@
--- A code that is made of an answer's number and place tells the answer (`told`). The loop test's number (`needed-told`): it tells the outcome, and on success it is 1 exactly if there is a closed walk. How many words the work area has: `words-refused`, `words-accepted`.
+-- A code that is made of an answer's number and place tells the answer (`told`). The loop test's number (`needed_told`): it tells the outcome, and on success it is 1 exactly if there is a closed walk. How many words the work area has: `words_refused`, `words_accepted`.
 use mathlib.Core.Path.{◌≡◌, refl, sym, ap, ◌∙◌}
 use mathlib.Core.Logic.{◌↔◌, ◌≢◌}
 use mathlib.Core.Bool.{Bool, true, false, not, cond, true≢false}

@@ -1,4 +1,4 @@
--- The steps of the row builder: an edge is counted (`drives-counted`) or filled in (`drives-filled`), counts become starts (`summed-more`),
+-- The steps of the row builder: an edge is counted (`drives_counted`) or filled in (`drives_filled`), counts become starts (`summed_more`),
 -- and at the end the part holds the table of the edges (`built`). No width and no address.
 use mathlib.Core.Path.{◌≡◌, refl, sym, ap, ap₂, ◌∙◌, subst}
 use mathlib.Core.Logic.{◌≢◌}

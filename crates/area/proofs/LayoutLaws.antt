@@ -1,4 +1,4 @@
--- The work area of each edition has room for every accepted graph (`edition1-roomy`, `edition2-roomy`), and regions laid out in an area that has room hold the
+-- The work area of each edition has room for every accepted graph (`edition1_roomy`, `edition2_roomy`), and regions laid out in an area that has room hold the
 -- graph (`based`).
 use mathlib.Core.Path.{◌≡◌, sym, ap, ◌∙◌}
 use mathlib.Core.List.{List}

@@ -1,5 +1,5 @@
--- A list that stands in the words from a base on, `take k (drop base w)`: one more entry (`list-more`), a store before or after it (`list-before`,
--- `list-after`), an entry of it (`list-entry`) and a longer part of it (`list-step`). Words from a base on stay from a later one on (`drop-later`).
+-- A list that stands in the words from a base on, `take k (drop base w)`: one more entry (`list_more`), a store before or after it (`list_before`,
+-- `list_after`), an entry of it (`list_entry`) and a longer part of it (`list_step`). Words from a base on stay from a later one on (`drop_later`).
 use mathlib.Core.Path.{◌≡◌, refl, sym, ap, ◌∙◌, subst}
 use mathlib.Core.List.Memᴰ
 use mathlib.Core.List.{List, [], ◌∷◌, ◌++◌}

@@ -1,5 +1,5 @@
--- Words that give 0 under `|` are 0, and so are all of a block that do (`blank-more`, `all-blank`); and a part that is cleared behind words that are 0
--- (`wiped-part`).
+-- Words that give 0 under `|` are 0, and so are all of a block that do (`blank_more`, `all_blank`); and a part that is cleared behind words that are 0
+-- (`wiped_part`).
 use mathlib.Core.Path.{◌≡◌, refl, sym, ap, ◌∙◌, subst}
 use mathlib.Core.List.{List, ◌++◌, append_assoc}
 use Prim.Native.Nat.{ℕ, ◌+◌, ◌-◌, ◌≤◌, ◌<◌}

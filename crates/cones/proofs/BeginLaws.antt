@@ -1,5 +1,5 @@
--- The producers, one after the other: the start (`marks-part`, `cleared-kept`, `cleared-marks`, `begun-start`), one that is not wanted (`begun-skip`), one with a body (`begun-follows`, `begun-body`) and a fact
--- (`begun-fact`). What one step keeps and the next keeps, both keep (`kept_trans`); the flags are kept (`kept-flags`).
+-- The producers, one after the other: the start (`marks_part`, `cleared_kept`, `cleared_marks`, `begun_start`), one that is not wanted (`begun_skip`), one with a body (`begun_follows`, `begun_body`) and a fact
+-- (`begun_fact`). What one step keeps and the next keeps, both keep (`kept_trans`); the flags are kept (`kept_flags`).
 use mathlib.Core.Path.{◌≡◌, refl, sym, ap, ◌∙◌, subst}
 use mathlib.Core.Bool.{Bool, true, false, not}
 use mathlib.Core.List.Memᴰ

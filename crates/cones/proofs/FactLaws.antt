@@ -1,5 +1,5 @@
--- The members of a set below a bound: the next number is one (`members-in`) or is none (`members-out`). The facts that a cone lists are the producers in
--- the set, and no others (`fact-mem`).
+-- The members of a set below a bound: the next number is one (`members_in`) or is none (`members_out`). The facts that a cone lists are the producers in
+-- the set, and no others (`fact_mem`).
 use mathlib.Core.Path.{◌≡◌, sym, ap, subst}
 use mathlib.Core.Logic.{◌⊎◌, inl, inr, ◌↔◌}
 use mathlib.Core.Bool.{Bool, true, false, cond}

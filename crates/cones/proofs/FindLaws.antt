@@ -1,5 +1,5 @@
--- The search for a cone, over lists: its start (`find-start`), a node that is found already or new (`find-skip`, `find-add`, with room by
--- `find-room`), the next producer and the leaves of the next node (`find-producer`, `find-leaves`), and its end (`find-end`): what is found is the cone.
+-- The search for a cone, over lists: its start (`find_start`), a node that is found already or new (`find_skip`, `find_add`, with room by
+-- `find_room`), the next producer and the leaves of the next node (`find_producer`, `find_leaves`), and its end (`find_end`): what is found is the cone.
 use mathlib.Core.Path.{◌≡◌, refl, sym, ap, ◌∙◌, subst}
 use mathlib.Core.Logic.{◌⊎◌, inl, inr, ◌≢◌}
 use mathlib.Core.Bool.{Bool, true, false, cond}

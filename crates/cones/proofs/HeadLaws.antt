@@ -1,5 +1,5 @@
--- The heads of a producer: those along a chain, link after link (`heads-start`, `heads-next`, `heads-end`), and when one makes the producer wanted
--- (`wanted-cyclic`, `wanted-some`).
+-- The heads of a producer: those along a chain, link after link (`heads_start`, `heads_next`, `heads_end`), and when one makes the producer wanted
+-- (`wanted_cyclic`, `wanted_some`).
 use mathlib.Core.Path.{◌≡◌, refl, sym, ap, ◌∙◌}
 use mathlib.Core.Bool.{Bool, true, false, ◌||◌}
 use mathlib.Core.List.Memᴰ

@@ -1,4 +1,4 @@
--- Refusal 12, a node at a time: whether it is in the body cone and absorbed (`refused-out`, `refused-in`), and what the scan answers (`refuse-at`, `refuse-on`, `refuse-none`).
+-- Refusal 12, a node at a time: whether it is in the body cone and absorbed (`refused_out`, `refused_in`), and what the scan answers (`refuse_at`, `refuse_on`, `refuse_none`).
 use mathlib.Core.Path.{◌≡◌, refl, sym, ap, ◌∙◌}
 use mathlib.Core.Logic.{◌⊎◌, inl, inr}
 use mathlib.Core.Bool.{Bool, true, false, ◌&&◌, cond}

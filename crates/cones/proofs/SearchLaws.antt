@@ -1,5 +1,5 @@
--- The search as the work area has it: a node included (`search-ready`, `search-include`), the leaves of the next node of the list (`next_low`,
--- `leaves-follow`, `leaves-done`), and the end (`search-end`).
+-- The search as the work area has it: a node included (`search_ready`, `search_include`), the leaves of the next node of the list (`next_low`,
+-- `leaves_follow`, `leaves_done`), and the end (`search_end`).
 use mathlib.Core.Path.{◌≡◌, refl, sym, ap, ◌∙◌}
 use mathlib.Core.Logic.{◌⊎◌, inl, inr, ◌≢◌}
 use mathlib.Core.Bool.{Bool, true, false, cond}

@@ -1,5 +1,5 @@
--- How many edges lead to a vertex. To a node: one from its operand (`degree-operand`) or one from each leaf (`degree-leaves`). To an atom: a fact adds none
--- (`below-fact`), and a producer with a body one for each time that it has the atom as a head (`below-heads`).
+-- How many edges lead to a vertex. To a node: one from its operand (`degree_operand`) or one from each leaf (`degree_leaves`). To an atom: a fact adds none
+-- (`below_fact`), and a producer with a body one for each time that it has the atom as a head (`below_heads`).
 use mathlib.Core.Path.{◌≡◌, refl, ap, ◌∙◌}
 use mathlib.Core.Logic.{◌≢◌}
 use mathlib.Core.Bool.{Bool, true, false, cond}

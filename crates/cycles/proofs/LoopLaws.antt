@@ -1,5 +1,5 @@
--- The loops of the test, a turn each: counting a node (`node-counted`) and a producer (`fact-counted`, `heads-start`, `head-counted`), and looking at a
--- vertex (`look-start`, `looked`, `added`). Stores past the tables leave the shape (`shape-set`).
+-- The loops of the test, a turn each: counting a node (`node_counted`) and a producer (`fact_counted`, `heads_start`, `head_counted`), and looking at a
+-- vertex (`look_start`, `looked`, `added`). Stores past the tables leave the shape (`shape_set`).
 use mathlib.Core.Path.{◌≡◌, refl, sym, ap, ◌∙◌}
 use mathlib.Core.Logic.{◌⊎◌, inl, inr, ◌≢◌}
 use mathlib.Core.List.Memᴰ

@@ -1,6 +1,6 @@
--- Two accepted graphs of equal content, each in an edition of its own: the rules give them the same lists under the same cuts (`outcome-equal`). From the contracts of the calls alone: where both work areas have the length that is asked for (or
--- neither has), the loop test gives the same answer (`needed-equal`), and preparation and pass give the same number and leave the same output (`prepared-equal`,
--- `completed-equal`), whatever the masks cut.
+-- Two accepted graphs of equal content, each in an edition of its own: the rules give them the same lists under the same cuts (`outcome_equal`). From the contracts of the calls alone: where both work areas have the length that is asked for (or
+-- neither has), the loop test gives the same answer (`needed_equal`), and preparation and pass give the same number and leave the same output (`prepared_equal`,
+-- `completed_equal`), whatever the masks cut.
 use mathlib.Core.Path.{◌≡◌, refl, sym, ap, ap₂, ◌∙◌, fun_ext}
 use mathlib.Core.Bool.{Bool, true, false, ◌||◌, cond}
 use mathlib.Core.List.{List, [], ◌∷◌}

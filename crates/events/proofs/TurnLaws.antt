@@ -1,5 +1,5 @@
--- A row in the tables, entry by entry: it stays as it was while entries are visited, whatever P is kept meanwhile. An entry is a node (`nodes-next`,
--- `nodes-more`, `nodes-done`) or stands for f of it, as a producer for its heads (`flat-next`, `flat-more`, `flat-done`).
+-- A row in the tables, entry by entry: it stays as it was while entries are visited, whatever P is kept meanwhile. An entry is a node (`nodes_next`,
+-- `nodes_more`, `nodes_done`) or stands for f of it, as a producer for its heads (`flat_next`, `flat_more`, `flat_done`).
 use mathlib.Core.Path.{◌≡◌, refl, ◌∙◌}
 use mathlib.Core.List.{List, [], ◌∷◌}
 use Prim.Native.Nat.{ℕ, ◌+◌, ◌≤◌, ◌<◌}

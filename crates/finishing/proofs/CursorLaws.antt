@@ -1,5 +1,5 @@
--- The first cursor of a vertex leaves its predecessors (`first-all`); a cursor leaves nothing, or a vertex and what the next cursor leaves (`row-end`,
--- `row_next`, `links_end`, `operand-next`, `link-next`).
+-- The first cursor of a vertex leaves its predecessors (`first_all`); a cursor leaves nothing, or a vertex and what the next cursor leaves (`row_end`,
+-- `row_next`, `links_end`, `operand_next`, `link_next`).
 use mathlib.Core.Path.{◌≡◌, refl, sym, ap, ap₂, ◌∙◌, subst}
 use mathlib.Core.Logic.{◌⊎◌, inl, inr, ◌≢◌}
 use mathlib.Core.Bool.{Bool, true, false, cond}

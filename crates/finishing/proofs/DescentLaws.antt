@@ -1,5 +1,5 @@
--- One walk after another (`walked_on`, `onward-step`, `step-onward`); the walk from one root (`root-entered`, `descended`), and from every root
--- (`walk_start`, `roots-more`, `walk_end`).
+-- One walk after another (`walked_on`, `onward_step`, `step_onward`); the walk from one root (`root_entered`, `descended`), and from every root
+-- (`walk_start`, `roots_more`, `walk_end`).
 use mathlib.Core.Path.{◌≡◌, sym, ap, ◌∙◌, subst}
 use mathlib.Core.Logic.{◌⊎◌, inl, inr, ◌≢◌}
 use mathlib.Core.Bool.{true, false}

@@ -1,4 +1,4 @@
--- Lists that grow at their end: a store at the end (`latest-push`), one elsewhere (`latest-aside`).
+-- Lists that grow at their end: a store at the end (`latest_push`), one elsewhere (`latest_aside`).
 use mathlib.Core.Path.{◌≡◌, sym, ap, ap₂, ◌∙◌}
 use mathlib.Core.Logic.{◌≢◌}
 use mathlib.Core.List.{List, ◌∷◌}

@@ -1,5 +1,5 @@
--- What a look from the cursor of a vertex finds: of an atom in its row (`atom-done`, `atom-body`; a fact leads nowhere, `atom-fact`), of a node its
--- operand or a leaf (`node_done`, `node-operand`, `node-leaf`).
+-- What a look from the cursor of a vertex finds: of an atom in its row (`atom_done`, `atom_body`; a fact leads nowhere, `atom_fact`), of a node its
+-- operand or a leaf (`node_done`, `node_operand`, `node_leaf`).
 use mathlib.Core.Path.{◌≡◌, refl, sym, ap, ap₂, ◌∙◌, subst}
 use mathlib.Core.Logic.{◌≢◌}
 use mathlib.Core.Bool.{true, false}

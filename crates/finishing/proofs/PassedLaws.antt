@@ -1,5 +1,5 @@
--- What leads to vertices met before, or nowhere, is passed over with the cursor held aside (`passed_none`, `passed-met`, `passed-same`): the walk stands as if the cursor were
--- stored. What is found then is what a look from there finds (`leaf-found`, `operand-found`, `body-found`), and a step from there is a step (`done-step`, `vertex-step`).
+-- What leads to vertices met before, or nowhere, is passed over with the cursor held aside (`passed_none`, `passed_met`, `passed_same`): the walk stands as if the cursor were
+-- stored. What is found then is what a look from there finds (`leaf_found`, `operand_found`, `body_found`), and a step from there is a step (`done_step`, `vertex_step`).
 use mathlib.Core.Path.{◌≡◌, refl, sym, ap, ◌∙◌, subst}
 use mathlib.Core.Logic.{◌≢◌}
 use mathlib.Core.Bool.{Bool, true, false}

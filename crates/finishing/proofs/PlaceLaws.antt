@@ -1,4 +1,4 @@
--- Every word that the walk reads or writes stands within the area, and a store past the tables keeps them (`kept_set`, `ready-kept`).
+-- Every word that the walk reads or writes stands within the area, and a store past the tables keeps them (`kept_set`, `ready_kept`).
 use mathlib.Core.Path.{◌≡◌, refl, sym, ◌∙◌, subst}
 use mathlib.Core.List.{List}
 use Prim.Native.Nat.{ℕ, ◌+◌, ◌≤◌, ◌<◌}

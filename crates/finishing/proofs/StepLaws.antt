@@ -1,4 +1,4 @@
--- One step of the walk from a look: a top with nothing left is finished (`step-done`), a vertex is passed over (`step-known`) or met (`step-new`).
+-- One step of the walk from a look: a top with nothing left is finished (`step_done`), a vertex is passed over (`step_known`) or met (`step_new`).
 -- A cursor that leaves what the one before it left changes nothing (`step_same`). And what the reads and stores of a step ask.
 use mathlib.Core.Path.{◌≡◌, refl, sym, ap, ◌∙◌, subst}
 use mathlib.Core.Logic.{◌⊎◌, inl, inr, ◌≢◌}

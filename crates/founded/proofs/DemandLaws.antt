@@ -1,5 +1,5 @@
--- Demand 3 beside its clause: after success the bits of the output, as the pass leaves them, are the missing set (`list-missing`), so the list is itself an
--- unfounded set (`list-unfounded`) and contains every other (`list-largest`).
+-- Demand 3 beside its clause: after success the bits of the output, as the pass leaves them, are the missing set (`list_missing`), so the list is itself an
+-- unfounded set (`list_unfounded`) and contains every other (`list_largest`).
 use mathlib.Core.Path.{◌≡◌, sym, subst}
 use mathlib.Core.List.{List}
 use Prim.Native.Nat.{ℕ}

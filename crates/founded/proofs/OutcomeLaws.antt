@@ -1,5 +1,5 @@
--- The answers of preparation and pass, and what each leaves: a refusal of the graph (`graph-refused`), of lengths (`lengths-refused`), of the work
--- area (`work-refused`), of an absorbed node (`absorbed-refused`), and success (`done`).
+-- The answers of preparation and pass, and what each leaves: a refusal of the graph (`graph_refused`), of lengths (`lengths_refused`), of the work
+-- area (`work_refused`), of an absorbed node (`absorbed_refused`), and success (`done`).
 use mathlib.Core.Path.{◌≡◌, refl, sym, ◌∙◌}
 use mathlib.Core.Logic.{◌≢◌}
 use mathlib.Core.Bool.{Bool, true, false, cond}

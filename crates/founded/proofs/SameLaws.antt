@@ -1,5 +1,5 @@
 -- From the contract alone: two successful passes on one graph leave the same list, whatever output and work area held before, and whatever the masks have past the last number
--- (`same-list`; document 01: "Its contents on entry have no effect", "Bits past the last number are ignored").
+-- (`same_list`; document 01: "Its contents on entry have no effect", "Bits past the last number are ignored").
 use mathlib.Core.Path.{◌≡◌, sym, ◌∙◌, fun_ext}
 use mathlib.Core.List.{List}
 use Prim.Native.Nat.{ℕ}

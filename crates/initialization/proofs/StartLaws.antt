@@ -1,5 +1,5 @@
--- The start over the work area: the beginning (`starts`), a head of a fact (`head-passes`, `head-pushes`), a node by its start
--- state (`inactive-rests`, `true-pushes`, `awaiting-pushes`, `awaiting-waits`), and the end (`begun`).
+-- The start over the work area: the beginning (`starts`), a head of a fact (`head_passes`, `head_pushes`), a node by its start
+-- state (`inactive_rests`, `true_pushes`, `awaiting_pushes`, `awaiting_waits`), and the end (`begun`).
 use mathlib.Core.Path.{◌≡◌, refl, sym, ap, ◌∙◌, subst}
 use mathlib.Core.List.Memᴰ
 use mathlib.Core.List.{List, [], ◌∷◌, ◌++◌, map, append-nil}

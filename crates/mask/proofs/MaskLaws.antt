@@ -1,5 +1,5 @@
--- Masks of any length: the bits of the mask of a set, unused ones among them (`mask-bit`, `pack-bit`); each word of a mask is its own bits
--- (`mask-own`); and what one turn of a loop adds, by `set_bit` (`mask-set`, `mask-skip`) or word by word (`mask-more`).
+-- Masks of any length: the bits of the mask of a set, unused ones among them (`mask_bit`, `pack_bit`); each word of a mask is its own bits
+-- (`mask_own`); and what one turn of a loop adds, by `set_bit` (`mask_set`, `mask_skip`) or word by word (`mask_more`).
 use mathlib.Core.Path.{◌≡◌, refl, sym, ap, ap₂, ◌∙◌}
 use mathlib.Core.Bool.{Bool, true, false, ◌&&◌, ◌||◌}
 use mathlib.Core.List.{List, [], ◌∷◌, ◌++◌, append_assoc, append-nil}

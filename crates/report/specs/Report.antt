@@ -82,6 +82,6 @@ Passed graph never atom_never old out r = Printed (absorbed_row (theory_of graph
 abbrev pub ReportedOf : (graph masks old out : List ℕ) (r : ℕ) → Type 0
 ReportedOf graph masks old out r = Printed (answer graph masks) (lines graph (node_mask graph masks) (atom_mask graph masks)) (theory_of graph) old out r
 
--- what `report` promises: its text is `reportText input place`
+-- what `report` promises: its text is `report_text input place`
 abbrev pub Reported : (input old out : List ℕ) (r : ℕ) → Type 0
 Reported input old out r = ReportedOf (graph_of input) (masks_of input) old out r

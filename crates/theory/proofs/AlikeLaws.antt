@@ -1,4 +1,4 @@
--- Two theories whose nodes are alike below their number: what is true of one is true of the other (`truth-alike`, `fires-alike`).
+-- Two theories whose nodes are alike below their number: what is true of one is true of the other (`truth_alike`, `fires_alike`).
 use mathlib.Core.Path.{◌≡◌, refl, ap, ◌∙◌}
 use mathlib.Core.Bool.{Bool, not, ◌&&◌}
 use Prim.Native.Nat.{ℕ, zero, suc, ◌<◌}

@@ -1,6 +1,6 @@
--- A chain that meets no link twice ends within K links (`once-ends`), since there are K links. It is followed link by link: `once_link`, `once-next`, `chain-end` and
--- `chain-step` are all that a follower needs, and the chain's length falls at each link. Where the links stay within the graph, the test of refusal 14 says whether a
--- chain comes back to one of its own links (`comes_back_lem`), and one that does not meets no link twice (`clear-once`). Links that only point upward never come back (`upward-clear`).
+-- A chain that meets no link twice ends within K links (`once_ends`), since there are K links. It is followed link by link: `once_link`, `once_next`, `chain_end` and
+-- `chain_step` are all that a follower needs, and the chain's length falls at each link. Where the links stay within the graph, the test of refusal 14 says whether a
+-- chain comes back to one of its own links (`comes_back_lem`), and one that does not meets no link twice (`clear_once`). Links that only point upward never come back (`upward_clear`).
 use mathlib.Core.Path.{◌≡◌, refl, sym, ap, ◌∙◌, subst}
 use mathlib.Core.Logic.{◌⊎◌, inl, inr, ◌↔◌}
 use mathlib.Core.Bool.{Bool, true, false, not, cond}

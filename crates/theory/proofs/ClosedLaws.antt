@@ -1,5 +1,5 @@
--- An atom's closed walks do not depend on the cone: it is cyclic exactly if it is on a closed walk over all atoms and all nodes (`cyclic-anywhere`). So theories
--- with the same edges have the same cyclic atoms (`cyclic-edges`).
+-- An atom's closed walks do not depend on the cone: it is cyclic exactly if it is on a closed walk over all atoms and all nodes (`cyclic_anywhere`). So theories
+-- with the same edges have the same cyclic atoms (`cyclic_edges`).
 use mathlib.Core.Path.{◌≡◌, sym, subst}
 use mathlib.Core.Logic.{◌↔◌}
 use mathlib.Core.List.{List}

@@ -1,4 +1,4 @@
--- The closure is closed under its rules (`closure-closed`), and what they pass on holds of its members (`closure-induct`).
+-- The closure is closed under its rules (`closure_closed`), and what they pass on holds of its members (`closure_induct`).
 use Prim.Native.Nat.{ℕ, ◌<◌}
 use mathlib.Core.List.{List}
 use Rattle.theory.specs.Sets.{Is, Set, ◌⊆◌}

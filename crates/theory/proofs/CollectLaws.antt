@@ -1,6 +1,6 @@
--- The second walk, a step at a time: the start and a root that is met already (`swept-start`, `swept-known`), a search begun at a root
--- (`collect-begin`), a row of it begun (`collect-row`), an entry that is met already or outside, or new (`entry-met`, `entry-fresh`); at its end
--- the members are a component (`collect-end`), and a member is on a closed walk exactly if there are two or more (`members-cyclic`).
+-- The second walk, a step at a time: the start and a root that is met already (`swept_start`, `swept_known`), a search begun at a root
+-- (`collect_begin`), a row of it begun (`collect_row`), an entry that is met already or outside, or new (`entry_met`, `entry_fresh`); at its end
+-- the members are a component (`collect_end`), and a member is on a closed walk exactly if there are two or more (`members_cyclic`).
 use mathlib.Core.Path.{◌≡◌, refl, sym, ap, ◌∙◌, subst}
 use mathlib.Core.Logic.{◌⊎◌, inl, inr, ◌≢◌, ◌↔◌}
 use mathlib.Core.Bool.{true, false}

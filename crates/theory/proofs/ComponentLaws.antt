@@ -1,5 +1,5 @@
--- The two walks of Sharir (1981), a step at a time, over lists. First walk: `descent-push`, `descent-skip`, `descent-finish` keep a finishing order
--- (`Good`). Second walk: `collect-root`, `collect-add`, `collect-skip`, and at the end of each search `sweep-next` and `component-marks`: a
+-- The two walks of Sharir (1981), a step at a time, over lists. First walk: `descent_push`, `descent_skip`, `descent_finish` keep a finishing order
+-- (`Good`). Second walk: `collect_root`, `collect_add`, `collect_skip`, and at the end of each search `sweep_next` and `component_marks`: a
 -- vertex of the component is on a closed walk exactly if the component has more than one member.
 use mathlib.Core.Path.{◌≡◌, refl, sym, ◌∙◌, subst}
 use mathlib.Core.Logic.{◌⊎◌, inl, inr, ◌↔◌}

@@ -1,4 +1,4 @@
--- The edges of preparation run between its vertices (`cone-within`), and are the edges of the loop test that end at one (`preds-cone`); no atom is
+-- The edges of preparation run between its vertices (`cone_within`), and are the edges of the loop test that end at one (`preds_cone`); no atom is
 -- its own predecessor (`no_self`).
 use mathlib.Core.Path.{◌≡◌, refl, sym, ap, ◌∙◌, subst}
 use mathlib.Core.Logic.{◌⊎◌, inl, inr}

@@ -1,5 +1,5 @@
--- Theories with the same content have the same edges (`preds-alike`), cyclic atoms, loop test, body cone, founded atoms and missing list (`cyclic-alike` ..
--- `outcome-alike`). Graphs with the same content, in whatever edition, have such theories (`content-alike`).
+-- Theories with the same content have the same edges (`preds_alike`), cyclic atoms, loop test, body cone, founded atoms and missing list (`cyclic_alike` ..
+-- `outcome_alike`). Graphs with the same content, in whatever edition, have such theories (`content_alike`).
 use mathlib.Core.Path.{◌≡◌, refl, sym, ap, ap₂, ◌∙◌, fun_ext}
 use mathlib.Core.Logic.{◌↔◌}
 use mathlib.Core.Bool.{Bool, true, false, ◌&&◌, cond}

@@ -1,5 +1,5 @@
--- Counting the entries of a list that lie in a set: one more number in the set adds its occurrences (`count-more`), all are counted exactly
--- if all lie in it (`count-all`, `count-full`). Lists without repeats: `subset-length`, `pigeonhole`, `covers`. Sums below a bound.
+-- Counting the entries of a list that lie in a set: one more number in the set adds its occurrences (`count_more`), all are counted exactly
+-- if all lie in it (`count_all`, `count_full`). Lists without repeats: `subset_length`, `pigeonhole`, `covers`. Sums below a bound.
 use mathlib.Core.Path.{◌≡◌, refl, sym, ap, ap₂, ◌∙◌, subst}
 use mathlib.Core.Logic.{◌⊎◌, inl, inr, ◌≢◌}
 use mathlib.Core.Bool.{Bool, true, false, ◌||◌, cond}

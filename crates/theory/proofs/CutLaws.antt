@@ -1,5 +1,5 @@
 -- Cuts past the last number play no part (document 01: "Bits past the last number are ignored"): cuts that agree on all nodes and all atoms give the same founded atoms and the same missing list
--- (`founded-cuts`, `missing-cuts`).
+-- (`founded_cuts`, `missing_cuts`).
 use mathlib.Core.Path.{◌≡◌, refl, sym, ap, ap₂, ◌∙◌}
 use mathlib.Core.Bool.{Bool, not, ◌&&◌, ◌||◌}
 use mathlib.Core.List.{List}

@@ -1,5 +1,5 @@
--- An atom is cyclic exactly if it is on a closed walk (`cyclic-walk`), and exactly if its strongly connected component has more than one vertex
--- (`cyclic-component`); the loop test's answer is yes exactly if some vertex of its graph is on a closed walk (`hasCycle-walk`).
+-- An atom is cyclic exactly if it is on a closed walk (`cyclic_walk`), and exactly if its strongly connected component has more than one vertex
+-- (`cyclic_component`); the loop test's answer is yes exactly if some vertex of its graph is on a closed walk (`has_cycle_walk`).
 use mathlib.Core.Path.{sym}
 use mathlib.Core.Logic.{◌↔◌, ◌≢◌}
 use mathlib.Core.List.Memᴰ

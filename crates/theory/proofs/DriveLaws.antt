@@ -1,6 +1,6 @@
 -- A walk, part after part: where `whole` is p and then the rest, p comes next (`follows_next`), and once p is done the rest is left
--- (`drives-step`); the whole is `follows-all` and `drives-all`. A loop over a list that gives a part an entry goes by `turn-next`, `turn_more` and `turn-done`; the list is a chain
--- (`chain-turn`) or a slice of the words (`slice-turn`).
+-- (`drives_step`); the whole is `follows_all` and `drives_all`. A loop over a list that gives a part an entry goes by `turn_next`, `turn_more` and `turn_done`; the list is a chain
+-- (`chain_turn`) or a slice of the words (`slice_turn`).
 use mathlib.Core.Path.{◌≡◌, refl, ap, ◌∙◌}
 use mathlib.Core.List.{List, [], ◌∷◌, ◌++◌, append_assoc, append-nil}
 use Prim.Native.Nat.{ℕ, ◌+◌, ◌≤◌, ◌<◌}

@@ -1,5 +1,5 @@
--- What the edges and the cones are, read off their definitions: the predecessors of an atom and of a node (`preds-atom`, `preds-node`), an
--- edge to an atom (`edge-atom`), and that a cone is the least set with its bodies and leaves (`cone-body`, `cone-leaf`, `cone-least`).
+-- What the edges and the cones are, read off their definitions: the predecessors of an atom and of a node (`preds_atom`, `preds_node`), an
+-- edge to an atom (`edge_atom`), and that a cone is the least set with its bodies and leaves (`cone_body`, `cone_leaf`, `cone_least`).
 use mathlib.Core.Path.{◌≡◌, refl, sym, ap, ◌∙◌, subst}
 use mathlib.Core.Logic.{◌⊎◌, inl, inr, ◌↔◌}
 use mathlib.Core.Bool.{Bool, true, false, ◌&&◌, ◌||◌, cond}

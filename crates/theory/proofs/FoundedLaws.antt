@@ -1,5 +1,5 @@
--- The founded set is closed under the two rules of "Pass" (`founded-closed`: a fact fires, and so does a producer whose body is true), it lies in
--- every set that is (`founded-least`), and what the rules pass on holds of its members (`founded-induct`). `missing-parts` reads the missing set.
+-- The founded set is closed under the two rules of "Pass" (`founded_closed`: a fact fires, and so does a producer whose body is true), it lies in
+-- every set that is (`founded_least`), and what the rules pass on holds of its members (`founded_induct`). `missing_parts` reads the missing set.
 use mathlib.Core.Path.{◌≡◌}
 use mathlib.Core.Logic.{◌⊎◌, inl, inr, ◌↔◌}
 use mathlib.Core.Bool.{false, not, ◌&&◌, ◌||◌}

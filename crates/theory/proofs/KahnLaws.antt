@@ -1,5 +1,5 @@
 -- Kahn's count (Kahn 1962) is a worklist in which every vertex waits for all its predecessors. At its end all vertices are found exactly if there is no closed
--- walk (`kahn-open`, `kahn-closed`).
+-- walk (`kahn_open`, `kahn_closed`).
 use mathlib.Core.Path.{◌≡◌, sym, subst}
 use mathlib.Core.Logic.{◌⊎◌, inl, inr}
 use mathlib.Core.Bool.{true, false, not}

@@ -1,5 +1,5 @@
--- The table that `least` computes is the least set below the bound that is closed under the step (a monotone one): `least-closed` and
--- `least-least`; and what the step passes on holds of each member: `least-induct`.
+-- The table that `least` computes is the least set below the bound that is closed under the step (a monotone one): `least_closed` and
+-- `least_least`; and what the step passes on holds of each member: `least_induct`.
 use mathlib.Core.Path.{◌≡◌, refl, sym, ap, ◌∙◌, subst}
 use mathlib.Core.Logic.{◌⊎◌, inl, inr}
 use mathlib.Core.Bool.{Bool, true, false, not, ◌&&◌}

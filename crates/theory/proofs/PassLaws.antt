@@ -1,5 +1,5 @@
--- The pass as a closure over vertices finds exactly the founded atoms, for every cone that holds what can come to matter (`passed-founded`); the
--- cyclic cone is one (`cyclicCone-enough`).
+-- The pass as a closure over vertices finds exactly the founded atoms, for every cone that holds what can come to matter (`passed_founded`); the
+-- cyclic cone is one (`cyclic_cone_enough`).
 use mathlib.Core.Path.{◌≡◌, refl, sym, ap, ◌∙◌, subst}
 use mathlib.Core.Logic.{◌⊎◌, inl, inr, ◌↔◌}
 use mathlib.Core.Bool.{Bool, true, false, not, ◌&&◌, ◌||◌, cond}

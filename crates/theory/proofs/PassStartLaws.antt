@@ -1,5 +1,5 @@
 -- The start of the pass: with the facts that have a cyclic head and the nodes of the cone still to be looked at, and one to wait for at each cyclic uncut
--- atom, a worklist begins (`pass-begin`); a node waits for all its leaves, for one, or for nothing (`node-waits`).
+-- atom, a worklist begins (`pass_begin`); a node waits for all its leaves, for one, or for nothing (`node_waits`).
 use mathlib.Core.Path.{◌≡◌, refl, sym, ap, ap₂, ◌∙◌, subst}
 use mathlib.Core.Logic.{◌⊎◌, inl, inr, ◌↔◌}
 use mathlib.Core.Bool.{Bool, true, false, not, ◌&&◌, cond}

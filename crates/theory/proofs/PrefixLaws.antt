@@ -1,4 +1,4 @@
--- What an array holds so far, entry by entry: its length, a store past it, one more entry (`upto-push`), and a prefix in two parts (`upto-split`).
+-- What an array holds so far, entry by entry: its length, a store past it, one more entry (`upto_push`), and a prefix in two parts (`upto_split`).
 use mathlib.Core.Path.{◌≡◌, refl, ap, ap₂, ◌∙◌, subst}
 use mathlib.Core.List.Memᴰ
 use mathlib.Core.List.{List, ◌∷◌, ◌++◌}

@@ -1,5 +1,5 @@
 -- The rows of a stream hold each item as often as its keys name the row (`row_count`), so an edge stands in the row of its source as often as
--- in the predecessor list of its target (`succs-preds`). How many entries there are: `stream-length`, `rows-length`, `preds-few`.
+-- in the predecessor list of its target (`succs_preds`). How many entries there are: `stream_length`, `rows_length`, `preds_few`.
 use mathlib.Core.Path.{◌≡◌, refl, sym, ap, ap₂, ◌∙◌, subst}
 use mathlib.Core.Logic.{◌⊎◌, inl, inr, ◌≢◌}
 use mathlib.Core.Bool.{Bool, true, false, cond}

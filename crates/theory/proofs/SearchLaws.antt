@@ -1,5 +1,5 @@
--- The first walk, a step at a time: the start, a root, an entry that is met already or new, and the top finished (`search-start`, `search-root`,
--- `search-known`, `search-new`, `search-finish`); at the end the vertices are in a finishing order (`search-end`).
+-- The first walk, a step at a time: the start, a root, an entry that is met already or new, and the top finished (`search_start`, `search_root`,
+-- `search_known`, `search_new`, `search_finish`); at the end the vertices are in a finishing order (`search_end`).
 use mathlib.Core.Path.{◌≡◌, refl, sym, ap, ◌∙◌, subst}
 use mathlib.Core.Logic.{◌⊎◌, inl, inr, ◌≢◌}
 use mathlib.Core.Bool.{false}

@@ -1,5 +1,5 @@
--- The start of a worklist, a step at a time: the beginning (`starting-begin`), a head of a fact (`head_passed`, `head-found`), a node (`node-idle`,
--- `node-found`), and the end (`starting-end`).
+-- The start of a worklist, a step at a time: the beginning (`starting_begin`), a head of a fact (`head_passed`, `head_found`), a node (`node_idle`,
+-- `node_found`), and the end (`starting_end`).
 use mathlib.Core.Path.{◌≡◌, refl, sym, ap, ◌∙◌, subst}
 use mathlib.Core.Logic.{◌⊎◌, inl, inr, ◌≢◌, ◌↔◌}
 use mathlib.Core.List.Memᴰ

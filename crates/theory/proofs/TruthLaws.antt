@@ -1,5 +1,5 @@
--- Truth grows with the truth of the atoms (`truth-mono`, `fires-mono`), and where leaves are below their node it is the list under "Pass", read
--- line by line (`truth-step`).
+-- Truth grows with the truth of the atoms (`truth_mono`, `fires_mono`), and where leaves are below their node it is the list under "Pass", read
+-- line by line (`truth_step`).
 use mathlib.Core.Path.{◌≡◌, refl, ap, ap₂}
 use mathlib.Core.Bool.{Bool, not, ◌&&◌, ◌||◌}
 use mathlib.Core.List.Memᴰ

@@ -1,4 +1,4 @@
--- The first entries of an array in order (`take`) and the last one first (`upto`): the same members (`same-members`), and no repeats where the other has none.
+-- The first entries of an array in order (`take`) and the last one first (`upto`): the same members (`same_members`), and no repeats where the other has none.
 use mathlib.Core.Path.{◌≡◌, refl, sym, subst}
 use mathlib.Core.Logic.{◌⊎◌, inl, inr, ◌↔◌, ◌≢◌}
 use mathlib.Core.List.Memᴰ

@@ -1,5 +1,5 @@
--- Demand 3 on the rules: an atom is missing exactly if it is in some unfounded set (`missing-exactly`). The missing set is itself one
--- (`missing-unfounded`), every other lies inside it (`unfounded-missing`), and the union of two is one (`union-unfounded`).
+-- Demand 3 on the rules: an atom is missing exactly if it is in some unfounded set (`missing_exactly`). The missing set is itself one
+-- (`missing_unfounded`), every other lies inside it (`unfounded_missing`), and the union of two is one (`union_unfounded`).
 use mathlib.Core.Path.{◌≡◌, refl}
 use mathlib.Core.Logic.{◌⊎◌, inl, inr, ⊎_elim, ◌↔◌}
 use mathlib.Core.Bool.{true, false, not, ◌&&◌, ◌||◌}

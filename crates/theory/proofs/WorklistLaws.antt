@@ -1,5 +1,5 @@
--- A worklist, a step at a time: the start (`worklist-start`), beginning a row (`worklist-begin`), an entry of it (`entry-idle`, `entry-count`,
--- `entry_found`), and the end: what is found is the closure (`worklist-end`).
+-- A worklist, a step at a time: the start (`worklist_start`), beginning a row (`worklist_begin`), an entry of it (`entry_idle`, `entry_count`,
+-- `entry_found`), and the end: what is found is the closure (`worklist_end`).
 use mathlib.Core.Path.{◌≡◌, refl, sym, ap, ◌∙◌, subst}
 use mathlib.Core.Logic.{◌⊎◌, inl, inr, ◌≢◌}
 use mathlib.Core.List.Memᴰ

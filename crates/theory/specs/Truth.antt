@@ -19,7 +19,7 @@ module _ (th : Theory) (never atom : Set) where
   truth_in zero n = false
   truth_in (suc k) n = not (never n) && holds (th.kind n) (atom (th.operand n)) (λ m. truth_in k m) (th.leaves n)
 
-  -- a leaf is below its own node, so n + 1 rounds are enough (proofs/TruthLaws, `truth-step`)
+  -- a leaf is below its own node, so n + 1 rounds are enough (proofs/TruthLaws, `truth_step`)
   unfoldable pub truth : Set
   truth n = truth_in (suc n) n
 

@@ -2,7 +2,6 @@
 use native.Mathlib.Omega.{arith}
 use lib.ListN.{length-take}
 use Rattle.adjacency.proofs.TableLaws.{start, to_count, to_sum, to_fill, filled}
-use borrow.Author.Rules.{rules}
 use Rattle.adjacency32.proofs.build.Goals as goal
 
 pub slice_bounds-clear-end : goal.slice_bounds-clear-end

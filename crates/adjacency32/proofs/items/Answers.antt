@@ -2,7 +2,6 @@
 use mathlib.Core.Path.{◌≡◌}
 use Rattle.theory.specs.Words.{theory_of}
 use Rattle.adjacency.specs.declared.Table.TheVariants.{AtomNodes, Parents, ByHead, ByBody}
-use borrow.Author.Rules.{rules}
 use Rattle.adjacency32.proofs.items.Goals as goal
 
 pub returns-in-AtomNodes : goal.returns-in-AtomNodes

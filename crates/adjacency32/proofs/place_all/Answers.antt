@@ -9,7 +9,6 @@ use Rattle.theory.proofs.DriveLaws.{drives_none, follows_next, drives_step}
 use Rattle.adjacency.specs.Tables.{keys_of, items_of, edges_of}
 use Rattle.adjacency.specs.Building.{Building}
 use Rattle.adjacency.proofs.KeyLaws.{stream_turn, stream_end}
-use borrow.Author.Rules.{rules}
 use Rattle.adjacency32.proofs.place_all.Goals as goal
 
 pub loop-i-init : goal.loop-i-init

@@ -1,15 +1,10 @@
 -- Written by tools/widen from crates/adjacency/proofs/place_all/Invariants.antt: edit that one.
-use mathlib.Core.Path.{◌≡◌, subst}
-use Prim.Native.Nat.{ℕ, ◌-◌, ◌+◌}
-use native.Mathlib.Omega.{arith}
+use Prim.Native.Nat.{◌-◌}
 use Rattle.theory.specs.Words.{theory_of}
-use Rattle.theory.specs.Rows.{tagged, stream}
+use Rattle.theory.specs.Rows.{stream}
 use Rattle.theory.specs.Drive.{Drives}
-use Rattle.theory.proofs.DriveLaws.{drives_none, follows_next, drives_step}
-use Rattle.adjacency.specs.Tables.{keys_of, items_of, edges_of}
+use Rattle.adjacency.specs.Tables.{keys_of, edges_of}
 use Rattle.adjacency.specs.Building.{Building}
-use Rattle.adjacency.proofs.KeyLaws.{stream_turn, stream_end}
-use borrow.Author.Rules.{rules}
 use Rattle.adjacency32.proofs.place_all.Given as goal
 
 abbrev pub invariant-loop-i : goal.invariant-loop-i

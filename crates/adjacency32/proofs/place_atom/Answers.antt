@@ -5,7 +5,6 @@ use Rattle.theory.specs.Rows.{tagged}
 use Rattle.theory.proofs.DriveLaws.{drives_none}
 use Rattle.adjacency.specs.Building.{Building}
 use Rattle.adjacency.proofs.KeyLaws.{atom_keys_lem, atom_no_keys}
-use borrow.Author.Rules.{rules}
 use Rattle.adjacency32.proofs.place_atom.Goals as goal
 
 pub kind-requires : goal.kind-requires

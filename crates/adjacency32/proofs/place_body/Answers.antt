@@ -7,7 +7,6 @@ use Rattle.theory.proofs.DriveLaws.{drives_none}
 use Rattle.graph.proofs.DecodeLaws.{the_body}
 use Rattle.adjacency.specs.Building.{Building}
 use Rattle.adjacency.proofs.KeyLaws.{body_keys_lem, body_no_keys}
-use borrow.Author.Rules.{rules}
 use Rattle.adjacency32.proofs.place_body.Goals as goal
 
 pub body-body-requires : goal.body-body-requires

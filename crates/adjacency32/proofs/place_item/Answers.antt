@@ -5,7 +5,6 @@ use Rattle.theory.specs.Rows.{tagged}
 use Rattle.graph.proofs.DecodeLaws.{the_heads}
 use Rattle.adjacency.specs.declared.Table.TheVariants.{AtomNodes, Parents, ByHead, ByBody}
 use Rattle.adjacency.proofs.KeyLaws.{leaf_keys_lem}
-use borrow.Author.Rules.{rules}
 use Rattle.adjacency32.proofs.place_item.Goals as goal
 
 pub place_atom-requires : goal.place_atom-requires

@@ -1,7 +1,6 @@
 -- Written by tools/widen from crates/area/proofs/bases_of/Answers.antt: edit that one.
 use Rattle.area.specs.Layout.{entries_in}
 use Rattle.area.proofs.LayoutLaws.{based}
-use borrow.Author.Rules.{rules}
 use Rattle.area32.proofs.bases_of.Goals as goal
 
 pub returns : goal.returns

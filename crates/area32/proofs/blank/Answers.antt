@@ -1,11 +1,8 @@
 -- Written by tools/widen from crates/area/proofs/blank/Answers.antt: edit that one.
-use Prim.Native.Nat.{◌-◌, ◌≤◌}
 use native.Mathlib.Nat.{not-suc-le-zero}
 use native.Mathlib.Omega.{arith}
-use lib.ListN.{length}
 use borrow.Author.Tests.{eqb-true}
-use Rattle.area.proofs.WipeLaws.{BlankTo, blank_more, all_blank}
-use borrow.Author.Rules.{rules}
+use Rattle.area.proofs.WipeLaws.{blank_more, all_blank}
 use Rattle.area32.proofs.blank.Goals as goal
 
 pub loop-j-init : goal.loop-j-init

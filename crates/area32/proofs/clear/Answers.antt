@@ -1,5 +1,4 @@
 -- Written by tools/widen from crates/area/proofs/clear/Answers.antt: edit that one.
-use borrow.Author.Rules.{rules}
 use Rattle.area32.proofs.clear.Goals as goal
 
 pub returns : goal.returns

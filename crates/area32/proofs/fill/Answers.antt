@@ -1,9 +1,8 @@
 -- Written by tools/widen from crates/area/proofs/fill/Answers.antt: edit that one.
 use mathlib.Core.Path.{◌≡◌, refl, ap, ◌∙◌}
 use mathlib.Core.List.{List, ◌++◌, append-nil}
-use Prim.Native.Nat.{◌≤◌, ◌-◌}
 use native.Mathlib.Omega.{arith}
-use lib.ListN.{length, drop, replicate}
+use lib.ListN.{length, replicate}
 use lib.Seq.{drop-length}
 use borrow.Author.Fill.{fill_more}
 use borrow.Author.Rules.{rules}

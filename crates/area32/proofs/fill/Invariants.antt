@@ -1,12 +1,8 @@
 -- Written by tools/widen from crates/area/proofs/fill/Invariants.antt: edit that one.
-use mathlib.Core.Path.{◌≡◌, refl, ap, ◌∙◌}
-use mathlib.Core.List.{List, ◌++◌, append-nil}
+use mathlib.Core.Path.{◌≡◌}
+use mathlib.Core.List.{◌++◌}
 use Prim.Native.Nat.{◌≤◌, ◌-◌}
-use native.Mathlib.Omega.{arith}
 use lib.ListN.{length, drop, replicate}
-use lib.Seq.{drop-length}
-use borrow.Author.Fill.{fill_more}
-use borrow.Author.Rules.{rules}
 use Rattle.area32.proofs.fill.Given as goal
 
 abbrev pub invariant-loop-i : goal.invariant-loop-i

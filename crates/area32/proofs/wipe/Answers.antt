@@ -1,8 +1,8 @@
 -- Written by tools/widen from crates/area/proofs/wipe/Answers.antt: edit that one.
-use mathlib.Core.Path.{◌≡◌, refl, sym, ◌∙◌}
-use Prim.Native.Nat.{◌+◌, ◌-◌, ◌≤◌}
+use mathlib.Core.Path.{refl, sym, ◌∙◌}
+use Prim.Native.Nat.{◌+◌}
 use native.Mathlib.Omega.{arith}
-use lib.ListN.{length, take, replicate}
+use lib.ListN.{length}
 use lib.Seq.{take_all}
 use Rattle.area.proofs.WipeLaws.{wiped_part}
 use borrow.Author.Rules.{rules}

@@ -1,11 +1,7 @@
 -- Written by tools/widen from crates/area/proofs/wipe/Invariants.antt: edit that one.
-use mathlib.Core.Path.{◌≡◌, refl, sym, ◌∙◌}
-use Prim.Native.Nat.{◌+◌, ◌-◌, ◌≤◌}
-use native.Mathlib.Omega.{arith}
+use mathlib.Core.Path.{◌≡◌}
+use Prim.Native.Nat.{◌-◌, ◌≤◌}
 use lib.ListN.{length, take, replicate}
-use lib.Seq.{take_all}
-use Rattle.area.proofs.WipeLaws.{wiped_part}
-use borrow.Author.Rules.{rules}
 use Rattle.area32.proofs.wipe.Given as goal
 
 abbrev pub invariant-loop-from : goal.invariant-loop-from

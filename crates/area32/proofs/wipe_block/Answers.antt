@@ -1,5 +1,4 @@
 -- Written by tools/widen from crates/area/proofs/wipe_block/Answers.antt: edit that one.
-use borrow.Author.Rules.{rules}
 use Rattle.area32.proofs.wipe_block.Goals as goal
 
 pub returns-then-blank : goal.returns-then-blank

@@ -3,7 +3,6 @@ use mathlib.Core.Path.{sym, ◌∙◌}
 use Rattle.refusals.specs.Answer.{first_refusal}
 use Rattle.refusals.specs.Refusals.{graph_rows, graph_answer}
 use Rattle.refusals.proofs.RowLaws.{edition_long, sized}
-use borrow.Author.Rules.{rules}
 use Rattle.checking32.proofs.check.Goals as goal
 
 pub returns-then-bad_edition : goal.returns-then-bad_edition

@@ -2,9 +2,7 @@
 use mathlib.Core.Path.{◌≡◌, ◌∙◌}
 use Prim.Native.Nat.{◌+◌, ◌-◌}
 use native.Mathlib.Omega.{arith}
-use Rattle.components.specs.Classes.{Sweeping}
 use Rattle.components.proofs.FlagLaws.{component_of, classified, sweep_on}
-use borrow.Author.Rules.{rules}
 use Rattle.components32.proofs.classify.Goals as goal
 
 pub loop-n-init : goal.loop-n-init

@@ -1,7 +1,6 @@
 -- Written by tools/widen from crates/components/proofs/cyclic_atoms/Answers.antt: edit that one.
 use Rattle.area.proofs.FillLaws.{filled}
 use Rattle.components.proofs.StartLaws.{flags_part, sizes, sweep_begin, sweep_finish}
-use borrow.Author.Rules.{rules}
 use Rattle.components32.proofs.cyclic_atoms.Goals as goal
 
 pub classify-requires : goal.classify-requires

@@ -1,7 +1,6 @@
 -- Written by tools/widen from crates/components/proofs/flag/Answers.antt: edit that one.
-use Prim.Native.Nat.{◌-◌}
 use native.Mathlib.Omega.{arith}
-use Rattle.components.proofs.FlagLaws.{Flagging, flagging_start, flagging_low, flagging_next, flagging_end, alone_end}
+use Rattle.components.proofs.FlagLaws.{flagging_start, flagging_low, flagging_next, flagging_end, alone_end}
 use Rattle.components32.proofs.flag.Goals as goal
 
 pub overflow_add-from : goal.overflow_add-from

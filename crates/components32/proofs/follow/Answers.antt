@@ -1,8 +1,7 @@
 -- Written by tools/widen from crates/components/proofs/follow/Answers.antt: edit that one.
 use mathlib.Core.Path.{◌≡◌}
-use Prim.Native.Nat.{◌+◌, ◌-◌}
+use Prim.Native.Nat.{◌+◌}
 use native.Mathlib.Omega.{arith}
-use Rattle.components.specs.Classes.{Searched}
 use Rattle.components.proofs.TurnLaws.{tail_low, head_low, turn_follows, turn_next}
 use Rattle.events.proofs.VertexLaws.{tables_same}
 use Rattle.components32.proofs.follow.Goals as goal

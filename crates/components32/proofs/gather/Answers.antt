@@ -6,7 +6,6 @@ use lib.ListN.{length-set}
 use Rattle.events.proofs.VertexLaws.{tables_same}
 use Rattle.components.proofs.GatherLaws.{root_in, root_room, gather_known, gather_start, small}
 use Rattle.components.proofs.TurnLaws.{search_restart, search_join, gather_end}
-use borrow.Author.Rules.{rules}
 use Rattle.components32.proofs.gather.Goals as goal
 
 pub overflow_add-b : goal.overflow_add-b

@@ -1,12 +1,8 @@
 -- Written by tools/widen from crates/cones/proofs/begin/Answers.antt: edit that one.
 use mathlib.Core.Path.{◌≡◌}
-use Prim.Native.Nat.{◌-◌}
 use native.Mathlib.Omega.{arith}
 use Rattle.theory.specs.Words.{theory_of}
-use Rattle.cones.specs.Cones.{Kept}
-use Rattle.cones.specs.Finding.{Begun}
 use Rattle.cones.proofs.BeginLaws.{kept_none, kept_trans, kept_flags}
-use borrow.Author.Rules.{rules}
 use Rattle.cones32.proofs.begin.Goals as goal
 
 pub loop-p-init : goal.loop-p-init

@@ -4,7 +4,6 @@ use mathlib.Core.Path.{sym, ◌∙◌}
 use Rattle.theory.specs.Words.{theory_of}
 use Rattle.graph.proofs.DecodeLaws.{the_body}
 use Rattle.cones.proofs.BeginLaws.{kept_none, begun_skip, begun_follows, begun_body, begun_fact}
-use borrow.Author.Rules.{rules}
 use Rattle.cones32.proofs.begin_at.Goals as goal
 
 pub returns-then-not-wanted : goal.returns-then-not-wanted

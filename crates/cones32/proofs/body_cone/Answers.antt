@@ -3,7 +3,6 @@ use mathlib.Core.Path.{refl, sym}
 use Rattle.theory.specs.Edges.{body_cone}
 use Rattle.theory.proofs.SetLaws.{clash}
 use Rattle.cones.specs.Cones.{picked}
-use borrow.Author.Rules.{rules}
 use Rattle.cones32.proofs.body_cone.Goals as goal
 
 pub find-c-requires : goal.find-c-requires

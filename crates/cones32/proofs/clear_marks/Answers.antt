@@ -1,7 +1,6 @@
 -- Written by tools/widen from crates/cones/proofs/clear_marks/Answers.antt: edit that one.
 use Rattle.area.proofs.FillLaws.{filled}
 use Rattle.cones.proofs.BeginLaws.{marks_part, cleared_kept, cleared_marks}
-use borrow.Author.Rules.{rules}
 use Rattle.cones32.proofs.clear_marks.Goals as goal
 
 pub returns : goal.returns

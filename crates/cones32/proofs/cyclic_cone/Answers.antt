@@ -2,7 +2,6 @@
 use mathlib.Core.Path.{sym}
 use Rattle.theory.specs.Founded.{cyclic_cone}
 use Rattle.cones.specs.Cones.{picked}
-use borrow.Author.Rules.{rules}
 use Rattle.cones32.proofs.cyclic_cone.Goals as goal
 
 pub find-requires : goal.find-requires

@@ -1,6 +1,5 @@
 -- Written by tools/widen from crates/cones/proofs/find/Answers.antt: edit that one.
 use Rattle.area.proofs.LayoutLaws.{room}
-use borrow.Author.Rules.{rules}
 use Rattle.cones32.proofs.find.Goals as goal
 
 pub bases_of-requires : goal.bases_of-requires

@@ -1,15 +1,9 @@
 -- Written by tools/widen from crates/cones/proofs/find_in/Answers.antt: edit that one.
-use mathlib.Core.Path.{◌≡◌, refl, ◌∙◌}
-use mathlib.Core.List.{[]}
-use Prim.Native.Nat.{◌-◌}
+use mathlib.Core.Path.{refl, ◌∙◌}
 use native.Mathlib.Omega.{arith}
-use lib.ListN.{length, take, drop}
 use Rattle.theory.specs.Words.{theory_of}
-use Rattle.cones.specs.Cones.{wanted_by}
-use Rattle.cones.specs.Finding.{stage, Searching}
 use Rattle.cones.proofs.SearchLaws.{next_low, leaves_once, leaves_follow, leaves_done}
 use Rattle.cones.proofs.BeginLaws.{kept_trans, kept_flags, kept_end, begun_start, held_end}
-use borrow.Author.Rules.{rules}
 use Rattle.cones32.proofs.find_in.Goals as goal
 
 pub clear_marks-requires : goal.clear_marks-requires

@@ -1,15 +1,11 @@
 -- Written by tools/widen from crates/cones/proofs/find_in/Invariants.antt: edit that one.
-use mathlib.Core.Path.{◌≡◌, refl, ◌∙◌}
+use mathlib.Core.Path.{◌≡◌}
 use mathlib.Core.List.{[]}
 use Prim.Native.Nat.{◌-◌}
-use native.Mathlib.Omega.{arith}
 use lib.ListN.{length, take, drop}
 use Rattle.theory.specs.Words.{theory_of}
 use Rattle.cones.specs.Cones.{wanted_by}
 use Rattle.cones.specs.Finding.{stage, Searching}
-use Rattle.cones.proofs.SearchLaws.{next_low, leaves_once, leaves_follow, leaves_done}
-use Rattle.cones.proofs.BeginLaws.{kept_trans, kept_flags, kept_end, begun_start, held_end}
-use borrow.Author.Rules.{rules}
 use Rattle.cones32.proofs.find_in.Given as goal
 
 abbrev pub invariant-loop-next : goal.invariant-loop-next

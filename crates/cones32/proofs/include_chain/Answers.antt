@@ -2,10 +2,6 @@
 use mathlib.Core.Path.{◌≡◌, refl}
 use mathlib.Core.List.{◌∷◌, []}
 use native.Mathlib.Omega.{arith}
-use lib.ListN.{length}
-use Rattle.theory.specs.Words.{chain}
-use Rattle.theory.specs.Links.{MeetsOnce}
-use Rattle.theory.specs.Drive.{Drives}
 use Rattle.theory.proofs.ChainLaws.{once_next, chain_end, chain_falls}
 use Rattle.theory.proofs.DriveLaws.{drives_none, turn_next, turn_more, turn_done, chain_turn}
 use Rattle.graph.proofs.DecodeLaws.{value_of_lem, next_of_lem, link_in}

@@ -1,14 +1,8 @@
 -- Written by tools/widen from crates/cones/proofs/refuse/Answers.antt: edit that one.
-use mathlib.Core.Path.{◌≡◌}
-use mathlib.Core.Bool.{false, ◌&&◌}
-use Prim.Native.Nat.{ℕ, ◌-◌, ◌≤◌, ◌<◌}
 use native.Mathlib.Omega.{arith}
 use borrow.Author.Count.{below_none}
-use Rattle.theory.specs.Theory.{absorbed}
 use Rattle.theory.specs.Words.{theory_of}
-use Rattle.theory.specs.Edges.{body_cone}
 use Rattle.cones.proofs.RefuseLaws.{refuse_at, refuse_on, refuse_none}
-use borrow.Author.Rules.{rules}
 use Rattle.cones32.proofs.refuse.Goals as goal
 
 pub loop-n-init : goal.loop-n-init

@@ -1,12 +1,8 @@
 -- Written by tools/widen from crates/cycles/proofs/count_all/Answers.antt: edit that one.
 use mathlib.Core.Path.{◌≡◌, sym, ◌∙◌}
-use mathlib.Core.List.{[]}
-use Prim.Native.Nat.{◌-◌, ◌≤◌}
 use native.Mathlib.Omega.{arith}
-use lib.ListN.{length}
 use Rattle.theory.specs.Words.{theory_of}
 use Rattle.graph.proofs.DecodeLaws.{the_producers}
-use Rattle.cycles.specs.Held.{Counting}
 use Rattle.cycles.proofs.LoopLaws.{count_start}
 use borrow.Author.Rules.{rules}
 use Rattle.cycles32.proofs.count_all.Goals as goal

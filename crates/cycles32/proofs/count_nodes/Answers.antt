@@ -1,10 +1,6 @@
 -- Written by tools/widen from crates/cycles/proofs/count_nodes/Answers.antt: edit that one.
 use mathlib.Core.Path.{◌≡◌, refl}
-use Prim.Native.Nat.{◌-◌, ◌≤◌}
 use native.Mathlib.Omega.{arith}
-use lib.ListN.{length}
-use Rattle.theory.specs.Words.{theory_of}
-use Rattle.cycles.specs.Held.{Started}
 use Rattle.cycles.proofs.LoopLaws.{node_place, node_fits, node_counted}
 use borrow.Author.Rules.{rules}
 use Rattle.cycles32.proofs.count_nodes.Goals as goal

@@ -1,12 +1,9 @@
 -- Written by tools/widen from crates/cycles/proofs/count_nodes/Invariants.antt: edit that one.
-use mathlib.Core.Path.{◌≡◌, refl}
+use mathlib.Core.Path.{◌≡◌}
 use Prim.Native.Nat.{◌-◌, ◌≤◌}
-use native.Mathlib.Omega.{arith}
 use lib.ListN.{length}
 use Rattle.theory.specs.Words.{theory_of}
 use Rattle.cycles.specs.Held.{Started}
-use Rattle.cycles.proofs.LoopLaws.{node_place, node_fits, node_counted}
-use borrow.Author.Rules.{rules}
 use Rattle.cycles32.proofs.count_nodes.Given as goal
 
 abbrev pub invariant-loop-n : goal.invariant-loop-n

@@ -1,11 +1,6 @@
 -- Written by tools/widen from crates/cycles/proofs/look_all/Invariants.antt: edit that one.
-use mathlib.Core.Path.{◌≡◌}
-use mathlib.Core.Logic.{⊎_elim}
 use Prim.Native.Nat.{◌+◌, ◌-◌, ◌≤◌}
-use native.Mathlib.Omega.{arith}
 use Rattle.cycles.specs.Held.{Looked}
-use Rattle.cycles.proofs.LoopLaws.{look_start, look_room, looked, added}
-use borrow.Author.Rules.{rules}
 use Rattle.cycles32.proofs.look_all.Given as goal
 
 abbrev pub invariant-loop-v : goal.invariant-loop-v

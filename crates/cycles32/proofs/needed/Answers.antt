@@ -1,7 +1,5 @@
 -- Written by tools/widen from crates/cycles/proofs/needed/Answers.antt: edit that one.
 use mathlib.Core.Path.{◌≡◌, sym, ◌∙◌, ap}
-use mathlib.Core.List.{[], ◌∷◌}
-use types.Run.{miss}
 use lib.ListN.{length, replicate}
 use Rattle.refusals.specs.Refusals.{answer_of}
 use Rattle.refusals.proofs.AcceptedLaws.{accepted}

@@ -3,7 +3,6 @@ use native.Mathlib.Omega.{arith}
 use mathlib.Core.Path.{◌∙◌}
 use Rattle.area.proofs.FillLaws.{filled}
 use Rattle.cycles.proofs.SetupLaws.{counts_part, set_up_started}
-use borrow.Author.Rules.{rules}
 use Rattle.cycles32.proofs.set_up.Goals as goal
 
 pub build_in-requires : goal.build_in-requires

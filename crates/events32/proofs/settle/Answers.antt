@@ -2,7 +2,6 @@
 use native.Mathlib.Omega.{arith}
 use lib.ListN.{length-set}
 use Rattle.events.proofs.SettleLaws.{one_of, ready, settle_wait, settle_room, settle_found}
-use borrow.Author.Rules.{rules}
 use Rattle.events32.proofs.settle.Goals as goal
 
 pub overflow_add-b : goal.overflow_add-b

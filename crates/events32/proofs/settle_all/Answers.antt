@@ -1,6 +1,5 @@
 -- Written by tools/widen from crates/events/proofs/settle_all/Answers.antt: edit that one.
 use Rattle.area.proofs.LayoutLaws.{room}
-use borrow.Author.Rules.{rules}
 use Rattle.events32.proofs.settle_all.Goals as goal
 
 pub bases_of-requires : goal.bases_of-requires

@@ -1,8 +1,7 @@
 -- Written by tools/widen from crates/events/proofs/settle_in/Answers.antt: edit that one.
 use mathlib.Core.Path.{◌≡◌, refl, ◌∙◌}
-use Prim.Native.Nat.{◌+◌, ◌-◌, ◌≤◌, ◌<◌}
+use Prim.Native.Nat.{◌<◌}
 use native.Mathlib.Omega.{arith}
-use Rattle.events.specs.Run.{Ran}
 use Rattle.events.proofs.RunLaws.{tail_low, head_low, run_follows, run_grows, run_next}
 use Rattle.events.proofs.VertexLaws.{tables_same}
 use Rattle.events32.proofs.settle_in.Goals as goal

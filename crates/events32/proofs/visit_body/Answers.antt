@@ -1,6 +1,5 @@
 -- Written by tools/widen from crates/events/proofs/visit_body/Answers.antt: edit that one.
 use native.Mathlib.Omega.{arith}
-use borrow.Author.Rules.{rules}
 use Rattle.events32.proofs.visit_body.Goals as goal
 
 pub row_start-from-requires : goal.row_start-from-requires

@@ -1,16 +1,9 @@
 -- Written by tools/widen from crates/events/proofs/visit_heads/Invariants.antt: edit that one.
-use mathlib.Core.Path.{◌≡◌, refl}
-use mathlib.Core.List.{[], ◌∷◌}
-use native.Mathlib.Omega.{arith}
 use lib.ListN.{length}
 use Rattle.theory.specs.Words.{theory_of, chain}
 use Rattle.theory.specs.Links.{MeetsOnce}
 use Rattle.theory.specs.Drive.{Drives}
-use Rattle.theory.proofs.ChainLaws.{once_next, chain_end, chain_falls}
-use Rattle.theory.proofs.DriveLaws.{drives_none, turn_next, turn_more, chain_turn}
-use Rattle.graph.proofs.DecodeLaws.{the_heads, value_of_lem, next_of_lem, link_in}
 use Rattle.events.specs.Held.{Held}
-use borrow.Author.Rules.{rules}
 use Rattle.events32.proofs.visit_heads.Given as goal
 
 abbrev pub invariant-loop-l : goal.invariant-loop-l

@@ -1,14 +1,9 @@
 -- Written by tools/widen from crates/events/proofs/visit_nodes/Answers.antt: edit that one.
-use Prim.Native.Nat.{◌≤◌, ◌-◌}
 use native.Mathlib.Omega.{arith}
-use lib.Seq.{slice}
-use Rattle.theory.specs.Drive.{Drives}
 use Rattle.theory.proofs.DriveLaws.{drives_none}
-use Rattle.area.specs.Views.{as_vertices}
 use Rattle.events.specs.Held.{Held}
 use Rattle.events.proofs.TurnLaws.{nodes_next, nodes_more, nodes_done}
 use Rattle.events.proofs.SettleLaws.{ready, tables_long}
-use borrow.Author.Rules.{rules}
 use Rattle.events32.proofs.visit_nodes.Goals as goal
 
 pub loop-i-init : goal.loop-i-init

@@ -1,15 +1,10 @@
 -- Written by tools/widen from crates/events/proofs/visit_producers/Answers.antt: edit that one.
-use Prim.Native.Nat.{◌≤◌, ◌-◌}
 use native.Mathlib.Omega.{arith}
-use lib.Seq.{slice}
 use Rattle.theory.specs.Words.{theory_of}
-use Rattle.theory.specs.Rows.{flat_map}
-use Rattle.theory.specs.Drive.{Drives}
 use Rattle.theory.proofs.DriveLaws.{drives_none}
 use Rattle.events.specs.Held.{Held}
 use Rattle.events.proofs.TurnLaws.{word_same, flat_next, flat_more, flat_done}
 use Rattle.events.proofs.SettleLaws.{tables_long}
-use borrow.Author.Rules.{rules}
 use Rattle.events32.proofs.visit_producers.Goals as goal
 
 pub loop-i-init : goal.loop-i-init

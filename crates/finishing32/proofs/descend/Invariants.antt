@@ -1,7 +1,5 @@
 -- Written by tools/widen from crates/finishing/proofs/descend/Invariants.antt: edit that one.
 use Rattle.finishing.specs.Walking.{ahead, Walked}
-use Rattle.finishing.proofs.DescentLaws.{walked_none, walked_on, root_entered, descended}
-use borrow.Author.Rules.{rules}
 use Rattle.finishing32.proofs.descend.Given as goal
 
 abbrev pub invariant-loop-top : goal.invariant-loop-top

@@ -3,7 +3,6 @@ use mathlib.Core.Path.{refl}
 use Rattle.finishing.specs.Walking.{known, new}
 use Rattle.finishing.proofs.PlaceLaws.{vertex_low}
 use Rattle.finishing.proofs.PassedLaws.{is_new, not_new}
-use borrow.Author.Rules.{rules}
 use Rattle.finishing32.proofs.enter.Goals as goal
 
 pub is_new-requires : goal.is_new-requires

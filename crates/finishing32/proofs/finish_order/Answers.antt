@@ -1,12 +1,7 @@
 -- Written by tools/widen from crates/finishing/proofs/finish_order/Answers.antt: edit that one.
-use mathlib.Core.Logic.{◌≢◌}
-use Prim.Native.Nat.{ℕ, ◌+◌, ◌-◌, ◌<◌}
 use native.Mathlib.Omega.{arith}
-use Rattle.area.specs.Views.{mark_in}
-use Rattle.finishing.specs.Walking.{Walked}
 use Rattle.finishing.proofs.PlaceLaws.{vertices_are}
 use Rattle.finishing.proofs.DescentLaws.{walked_none, walk_start, roots_more, walk_end}
-use borrow.Author.Rules.{rules}
 use Rattle.finishing32.proofs.finish_order.Goals as goal
 
 pub loop-root-init : goal.loop-root-init

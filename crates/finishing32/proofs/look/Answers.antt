@@ -3,7 +3,6 @@ use mathlib.Core.Path.{sym, ◌∙◌}
 use Rattle.finishing.proofs.CursorLaws.{node_in, node_kind, node_says}
 use Rattle.finishing.proofs.PlaceLaws.{atoms_are}
 use Rattle.finishing.proofs.PassedLaws.{top_under}
-use borrow.Author.Rules.{rules}
 use Rattle.finishing32.proofs.look.Goals as goal
 
 pub kind-requires : goal.kind-requires

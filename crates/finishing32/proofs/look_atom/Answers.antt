@@ -1,11 +1,9 @@
 -- Written by tools/widen from crates/finishing/proofs/look_atom/Answers.antt: edit that one.
-use mathlib.Core.Path.{◌≡◌, refl}
-use Prim.Native.Nat.{ℕ, ◌+◌, ◌-◌, ◌<◌}
+use mathlib.Core.Path.{refl}
+use Prim.Native.Nat.{◌+◌, ◌-◌}
 use native.Mathlib.Omega.{arith}
-use Rattle.finishing.specs.Walking.{OnTop, Passed}
 use Rattle.finishing.proofs.PlaceLaws.{vertices_few, vertices_are}
 use Rattle.finishing.proofs.PassedLaws.{here, passed_none, is_new, not_new, row_done, start_place, entry_place, cursor_few, producer_in, fact_passed, body_fits, body_found, body_passed}
-use borrow.Author.Rules.{rules}
 use Rattle.finishing32.proofs.look_atom.Goals as goal
 
 pub overflow_add-place : goal.overflow_add-place

@@ -1,11 +1,7 @@
 -- Written by tools/widen from crates/finishing/proofs/look_atom/Invariants.antt: edit that one.
-use mathlib.Core.Path.{◌≡◌, refl}
+use mathlib.Core.Path.{◌≡◌}
 use Prim.Native.Nat.{ℕ, ◌+◌, ◌-◌, ◌<◌}
-use native.Mathlib.Omega.{arith}
 use Rattle.finishing.specs.Walking.{OnTop, Passed}
-use Rattle.finishing.proofs.PlaceLaws.{vertices_few, vertices_are}
-use Rattle.finishing.proofs.PassedLaws.{here, passed_none, is_new, not_new, row_done, start_place, entry_place, cursor_few, producer_in, fact_passed, body_fits, body_found, body_passed}
-use borrow.Author.Rules.{rules}
 use Rattle.finishing32.proofs.look_atom.Given as goal
 
 abbrev pub invariant-loop-cursor : goal.invariant-loop-cursor

@@ -2,7 +2,6 @@
 use native.Mathlib.Omega.{arith}
 use Rattle.finishing.proofs.LookLaws.{node_done}
 use Rattle.finishing.proofs.PassedLaws.{here, looking, found_none}
-use borrow.Author.Rules.{rules}
 use Rattle.finishing32.proofs.look_operand.Goals as goal
 
 pub overflow_add-b : goal.overflow_add-b

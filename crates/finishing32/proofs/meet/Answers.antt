@@ -3,7 +3,6 @@ use native.Mathlib.Omega.{arith}
 use lib.ListN.{length-set}
 use Rattle.finishing.proofs.CursorLaws.{first_few}
 use Rattle.finishing.proofs.PlaceLaws.{vertices_few, atoms_are, cursor_place, stack_place, mark_place}
-use borrow.Author.Rules.{rules}
 use Rattle.finishing32.proofs.meet.Goals as goal
 
 pub overflow_add-b : goal.overflow_add-b

@@ -4,7 +4,6 @@ use Rattle.finishing.proofs.PlaceLaws.{vertices_few}
 use Rattle.finishing.proofs.StepLaws.{top_place}
 use Rattle.finishing.proofs.DescentLaws.{step_onward}
 use Rattle.finishing.proofs.PassedLaws.{as_top, done_finishing, done_step, vertex_meeting, vertex_step, vertex_top, vertex_first}
-use borrow.Author.Rules.{rules}
 use Rattle.finishing32.proofs.step.Goals as goal
 
 pub overflow_add-b : goal.overflow_add-b

@@ -4,7 +4,6 @@ use native.Mathlib.Omega.{arith}
 use Rattle.finishing.proofs.CursorLaws.{node_in}
 use Rattle.finishing.proofs.PlaceLaws.{atoms_are, vertex_low}
 use Rattle.finishing.proofs.PassedLaws.{top_under, here, passed_none, is_new, not_new, inputs_done, operand_under, operand_found, operand_passed}
-use borrow.Author.Rules.{rules}
 use Rattle.finishing32.proofs.take_operand.Goals as goal
 
 pub operand-operand-requires : goal.operand-operand-requires

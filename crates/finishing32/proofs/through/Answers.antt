@@ -7,7 +7,6 @@ use Rattle.finishing.proofs.CursorLaws.{node_in, node_kind, node_says, first_som
 use Rattle.finishing.proofs.PlaceLaws.{vertices_few, atoms_are}
 use Rattle.finishing.proofs.DescentLaws.{onward_none, stepped_onward}
 use Rattle.finishing.proofs.PassedLaws.{top_under, done_finishing, done_step, vertex_meeting, vertex_step}
-use borrow.Author.Rules.{rules}
 use Rattle.finishing32.proofs.through.Goals as goal
 
 pub returns-then-v-b : goal.returns-then-v-b

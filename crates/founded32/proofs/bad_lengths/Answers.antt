@@ -1,6 +1,5 @@
 -- Written by tools/widen from crates/founded/proofs/bad_lengths/Answers.antt: edit that one.
 use Rattle.founded.specs.Answers.{bad_lengths}
-use borrow.Author.Rules.{rules}
 use Rattle.founded32.proofs.bad_lengths.Goals as goal
 
 pub returns-then-bad_mask : goal.returns-then-bad_mask

@@ -7,7 +7,6 @@ use Rattle.area.proofs.LayoutLaws.{edition2_roomy}
 use Rattle.preparation.specs.Flags.{Listed}
 use Rattle.founded.proofs.OutcomeLaws.{absorbed_refused, done}
 use Rattle.founded.proofs.CallLaws.{not_zero, completes, mask_fits, output_fits, work_fits}
-use borrow.Author.Rules.{rules}
 use Rattle.founded32.proofs.complete_accepted.Goals as goal
 
 pub bases_of-b-requires : goal.bases_of-b-requires

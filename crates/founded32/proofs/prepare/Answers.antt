@@ -1,16 +1,13 @@
 -- Written by tools/widen from crates/founded/proofs/prepare/Answers.antt: edit that one.
 use mathlib.Core.Path.{refl, sym, ap, ◌∙◌}
 use mathlib.Core.Logic.{◌≢◌}
-use mathlib.Core.List.{[], ◌∷◌}
 use native.Mathlib.Omega.{arith}
-use types.Run.{miss}
 use Rattle.theory.specs.Accepted.{edition2}
 use Rattle.refusals.specs.Refusals.{answer_of}
 use Rattle.refusals.specs.declared.Checked.TheVariants.{Accepted}
 use Rattle.refusals.proofs.AcceptedLaws.{accepted}
 use Rattle.founded.proofs.OutcomeLaws.{graph_number, graph_refused, lengths_refused, work_refused}
 use Rattle.founded.proofs.CallLaws.{not_zero, prepares, mask_tested, work_bad}
-use borrow.Author.Rules.{rules}
 use Rattle.founded32.proofs.prepare.Goals as goal
 
 pub returns-in_default : goal.returns-in_default

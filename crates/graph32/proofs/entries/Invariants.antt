@@ -1,9 +1,7 @@
 -- Written by tools/widen from crates/graph/proofs/entries/Invariants.antt: edit that one.
-use native.Mathlib.Omega.{arith}
 use lib.ListN.{length}
 use Rattle.theory.specs.Words.{chain}
-use Rattle.graph.proofs.DecodeLaws.{link_in, next_of_lem}
-use Rattle.graph.proofs.FollowLaws.{Counted, counted_none, counted_end, counted_few, counted_less, counted_next}
+use Rattle.graph.proofs.FollowLaws.{Counted}
 use Rattle.graph32.proofs.entries.Given as goal
 
 abbrev pub invariant-loop-l : goal.invariant-loop-l

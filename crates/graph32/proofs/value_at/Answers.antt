@@ -1,6 +1,5 @@
 -- Written by tools/widen from crates/graph/proofs/value_at/Answers.antt: edit that one.
 use Rattle.graph.specs.Layout.{value_in}
-use borrow.Author.Rules.{rules}
 use Rattle.graph32.proofs.value_at.Goals as goal
 
 pub returns : goal.returns

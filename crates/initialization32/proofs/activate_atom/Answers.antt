@@ -2,7 +2,6 @@
 use mathlib.Core.Path.{sym, ◌∙◌}
 use native.Mathlib.Omega.{arith}
 use Rattle.initialization.proofs.StartLaws.{head_ready, head_fits, head_passes, head_pushes}
-use borrow.Author.Rules.{rules}
 use Rattle.initialization32.proofs.activate_atom.Goals as goal
 
 pub overflow_add-b : goal.overflow_add-b

@@ -1,17 +1,10 @@
 -- Written by tools/widen from crates/initialization/proofs/activate_facts/Invariants.antt: edit that one.
-use mathlib.Core.Path.{◌≡◌, refl, ap}
 use Prim.Native.Nat.{◌≤◌}
-use native.Mathlib.Omega.{arith}
 use Rattle.theory.specs.Words.{theory_of}
 use Rattle.theory.specs.Rows.{flat_map}
-use Rattle.theory.specs.Prefix.{upto}
 use Rattle.theory.specs.Drive.{Drives}
-use Rattle.theory.proofs.DriveLaws.{drives_none, turn_next, turn_more, turn_done}
 use Rattle.initialization.specs.Regions.{fact_rows}
 use Rattle.initialization.specs.Start.{At}
-use Rattle.initialization.proofs.RegionLaws.{listed_turn, listed_mem}
-use Rattle.initialization.proofs.StartLaws.{behind}
-use borrow.Author.Rules.{rules}
 use Rattle.initialization32.proofs.activate_facts.Given as goal
 
 abbrev pub invariant-loop-i : goal.invariant-loop-i

@@ -2,10 +2,7 @@
 use mathlib.Core.Path.{◌≡◌, refl, ap, ◌∙◌}
 use mathlib.Core.List.{[], ◌∷◌}
 use native.Mathlib.Omega.{arith}
-use lib.ListN.{length}
-use Rattle.theory.specs.Words.{next_of, chain, theory_of}
-use Rattle.theory.specs.Links.{MeetsOnce}
-use Rattle.theory.specs.Drive.{Drives}
+use Rattle.theory.specs.Words.{next_of, chain}
 use Rattle.theory.proofs.ChainLaws.{once_next, chain_end, chain_falls}
 use Rattle.theory.proofs.DriveLaws.{drives_none, follows_next, drives_step, chain_turn}
 use Rattle.graph.proofs.DecodeLaws.{the_producers, the_heads, value_of_lem, next_of_lem, link_in}

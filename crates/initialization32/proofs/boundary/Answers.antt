@@ -4,7 +4,6 @@ use mathlib.Core.Bool.{Bool, false}
 use Rattle.theory.specs.Theory.{Atom}
 use Rattle.theory.specs.Pass.{kind_mode}
 use Rattle.initialization.specs.Start.{initial_of}
-use borrow.Author.Rules.{rules}
 use Rattle.initialization32.proofs.boundary.Goals as goal
 
 pub returns-then-bit : goal.returns-then-bit

@@ -4,7 +4,6 @@ use mathlib.Core.Path.{sym, ◌∙◌}
 use Rattle.theory.specs.Words.{bit_at}
 use Rattle.theory.proofs.PassStartLaws.{first_none}
 use Rattle.initialization.proofs.FillLaws.{flag_off, flag_on, first_past, first_cut, first_waits}
-use borrow.Author.Rules.{rules}
 use Rattle.initialization32.proofs.first_count.Goals as goal
 
 pub returns-then-b-v : goal.returns-then-b-v

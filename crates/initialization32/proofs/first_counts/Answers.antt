@@ -1,11 +1,8 @@
 -- Written by tools/widen from crates/initialization/proofs/first_counts/Answers.antt: edit that one.
 use mathlib.Core.Path.{◌≡◌}
-use Prim.Native.Nat.{◌+◌, ◌-◌, ◌≤◌}
+use Prim.Native.Nat.{◌+◌}
 use native.Mathlib.Omega.{arith}
-use Rattle.theory.specs.Words.{bit_at}
-use Rattle.initialization.specs.Start.{Filled}
 use Rattle.initialization.proofs.FillLaws.{filled_none, filled_more}
-use borrow.Author.Rules.{rules}
 use Rattle.initialization32.proofs.first_counts.Goals as goal
 
 pub loop-v-init : goal.loop-v-init

@@ -1,11 +1,7 @@
 -- Written by tools/widen from crates/initialization/proofs/first_counts/Invariants.antt: edit that one.
-use mathlib.Core.Path.{◌≡◌}
 use Prim.Native.Nat.{◌+◌, ◌-◌, ◌≤◌}
-use native.Mathlib.Omega.{arith}
 use Rattle.theory.specs.Words.{bit_at}
 use Rattle.initialization.specs.Start.{Filled}
-use Rattle.initialization.proofs.FillLaws.{filled_none, filled_more}
-use borrow.Author.Rules.{rules}
 use Rattle.initialization32.proofs.first_counts.Given as goal
 
 abbrev pub invariant-loop-v : goal.invariant-loop-v

@@ -6,7 +6,6 @@ use Rattle.theory.specs.Words.{bit_at, theory_of}
 use Rattle.theory.specs.Founded.{cyclic}
 use Rattle.initialization.specs.Start.{initial_of}
 use Rattle.initialization.proofs.InitialLaws.{initial_cut, initial_uncut, cone_node, kind_in, operand_in}
-use borrow.Author.Rules.{rules}
 use Rattle.initialization32.proofs.read.Goals as goal
 
 pub returns-then-bit : goal.returns-then-bit

@@ -3,7 +3,6 @@ use mathlib.Core.Path.{refl, sym, ◌∙◌}
 use Rattle.theory.specs.Pass.{kind_mode}
 use Rattle.initialization.specs.Start.{initial_of}
 use Rattle.initialization.proofs.FillLaws.{flag_off, flag_on}
-use borrow.Author.Rules.{rules}
 use Rattle.initialization32.proofs.read_atom.Goals as goal
 
 pub returns-then-at-eq0 : goal.returns-then-at-eq0

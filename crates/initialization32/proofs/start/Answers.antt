@@ -1,7 +1,6 @@
 -- Written by tools/widen from crates/initialization/proofs/start/Answers.antt: edit that one.
 use Rattle.theory.specs.Words.{bit_at}
 use Rattle.initialization.proofs.StartLaws.{based_filled, prepared_filled, facts_follow, based_stated, prepared_stated, nodes_follow, begun}
-use borrow.Author.Rules.{rules}
 use Rattle.initialization32.proofs.start.Goals as goal
 
 pub activate_facts-tail-requires : goal.activate_facts-tail-requires

@@ -1,7 +1,6 @@
 -- Written by tools/widen from crates/initialization/proofs/start_node/Answers.antt: edit that one.
 use native.Mathlib.Omega.{arith}
 use Rattle.initialization.proofs.StartLaws.{node_ready, node_fits, inactive_rests, true_pushes, awaiting_pushes, awaiting_waits, awaiting_fits}
-use borrow.Author.Rules.{rules}
 use Rattle.initialization32.proofs.start_node.Goals as goal
 
 pub overflow_add-b : goal.overflow_add-b

@@ -1,18 +1,10 @@
 -- Written by tools/widen from crates/initialization/proofs/start_nodes/Invariants.antt: edit that one.
-use mathlib.Core.Path.{◌≡◌, refl, ap}
-use mathlib.Core.List.{[], ◌∷◌}
-use Prim.Native.Nat.{◌+◌, ◌≤◌}
-use native.Mathlib.Omega.{arith}
+use Prim.Native.Nat.{◌≤◌}
 use Rattle.theory.specs.Words.{bit_at}
-use Rattle.theory.specs.Prefix.{upto}
 use Rattle.theory.specs.Drive.{Drives}
-use Rattle.theory.proofs.DriveLaws.{drives_none, turn_next, turn_more, turn_done}
 use Rattle.area.specs.Views.{as_vertices}
 use Rattle.initialization.specs.Regions.{cone_nodes}
 use Rattle.initialization.specs.Start.{AtNodes}
-use Rattle.initialization.proofs.RegionLaws.{flagged_kept, listed_turn, listed_mem}
-use Rattle.initialization.proofs.StartLaws.{behind_nodes}
-use borrow.Author.Rules.{rules}
 use Rattle.initialization32.proofs.start_nodes.Given as goal
 
 abbrev pub invariant-loop-i : goal.invariant-loop-i

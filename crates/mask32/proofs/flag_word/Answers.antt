@@ -1,12 +1,10 @@
 -- Written by tools/widen from crates/mask/proofs/flag_word/Answers.antt: edit that one.
 use mathlib.Core.Path.{◌≡◌, sym, ap₂, ◌∙◌}
-use Prim.Native.Nat.{◌≤◌, ◌+◌, ◌-◌, ◌*◌}
+use Prim.Native.Nat.{◌+◌, ◌-◌, ◌*◌}
 use native.Mathlib.Omega.{arith}
-use lib.ListN.{length}
 use Rattle.mask.specs.Mask.{bits, flagged}
 use Rattle.mask.proofs.BitLaws.{bits_down}
 use Rattle.mask.proofs.MaskLaws.{flags_past}
-use borrow.Author.Rules.{rules}
 use Rattle.mask32.proofs.flag_word.Goals as goal
 
 pub loop-i-init : goal.loop-i-init

@@ -1,12 +1,8 @@
 -- Written by tools/widen from crates/mask/proofs/flag_word/Invariants.antt: edit that one.
-use mathlib.Core.Path.{◌≡◌, sym, ap₂, ◌∙◌}
-use Prim.Native.Nat.{◌≤◌, ◌+◌, ◌-◌, ◌*◌}
-use native.Mathlib.Omega.{arith}
+use mathlib.Core.Path.{◌≡◌}
+use Prim.Native.Nat.{◌≤◌, ◌+◌, ◌-◌}
 use lib.ListN.{length}
 use Rattle.mask.specs.Mask.{bits, flagged}
-use Rattle.mask.proofs.BitLaws.{bits_down}
-use Rattle.mask.proofs.MaskLaws.{flags_past}
-use borrow.Author.Rules.{rules}
 use Rattle.mask32.proofs.flag_word.Given as goal
 
 abbrev pub invariant-loop-i : goal.invariant-loop-i

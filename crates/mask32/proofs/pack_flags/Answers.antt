@@ -1,9 +1,6 @@
 -- Written by tools/widen from crates/mask/proofs/pack_flags/Answers.antt: edit that one.
-use mathlib.Core.Path.{◌≡◌, ◌∙◌}
-use mathlib.Core.List.{◌++◌}
-use Prim.Native.Nat.{◌≤◌, ◌-◌}
+use mathlib.Core.Path.{◌∙◌}
 use native.Mathlib.Omega.{arith}
-use lib.ListN.{length, drop}
 use Rattle.mask.specs.Mask.{mask_of, flagged}
 use Rattle.mask.proofs.MaskLaws.{mask_more, mask_whole, flags_pack}
 use borrow.Author.Rules.{rules}

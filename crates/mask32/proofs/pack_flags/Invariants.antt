@@ -1,12 +1,9 @@
 -- Written by tools/widen from crates/mask/proofs/pack_flags/Invariants.antt: edit that one.
-use mathlib.Core.Path.{◌≡◌, ◌∙◌}
+use mathlib.Core.Path.{◌≡◌}
 use mathlib.Core.List.{◌++◌}
 use Prim.Native.Nat.{◌≤◌, ◌-◌}
-use native.Mathlib.Omega.{arith}
 use lib.ListN.{length, drop}
 use Rattle.mask.specs.Mask.{mask_of, flagged}
-use Rattle.mask.proofs.MaskLaws.{mask_more, mask_whole, flags_pack}
-use borrow.Author.Rules.{rules}
 use Rattle.mask32.proofs.pack_flags.Given as goal
 
 abbrev pub invariant-loop-w : goal.invariant-loop-w

@@ -1,6 +1,5 @@
 -- Written by tools/widen from crates/preparation/proofs/build_rows/Answers.antt: edit that one.
 use Rattle.preparation.proofs.RowsLaws.{rowed}
-use borrow.Author.Rules.{rules}
 use Rattle.preparation32.proofs.build_rows.Goals as goal
 
 pub build_in-requires-2 : goal.build_in-requires-2

@@ -1,7 +1,6 @@
 -- Written by tools/widen from crates/preparation/proofs/cyclic_atoms/Answers.antt: edit that one.
 use mathlib.Core.Path.{sym}
 use Rattle.preparation.proofs.StageLaws.{marked_staged}
-use borrow.Author.Rules.{rules}
 use Rattle.preparation32.proofs.cyclic_atoms.Goals as goal
 
 pub mark-requires : goal.mark-requires

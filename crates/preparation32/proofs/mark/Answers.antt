@@ -1,6 +1,5 @@
 -- Written by tools/widen from crates/preparation/proofs/mark/Answers.antt: edit that one.
 use Rattle.area.proofs.LayoutLaws.{room}
-use borrow.Author.Rules.{rules}
 use Rattle.preparation32.proofs.mark.Goals as goal
 
 pub bases_of-requires : goal.bases_of-requires

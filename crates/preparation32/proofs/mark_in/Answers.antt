@@ -1,9 +1,6 @@
 -- Written by tools/widen from crates/preparation/proofs/mark_in/Answers.antt: edit that one.
 use mathlib.Core.Path.{◌∙◌}
-use native.Mathlib.Omega.{arith}
-use Rattle.graph.proofs.DecodeLaws.{the_nodes}
 use Rattle.preparation.proofs.StageLaws.{cone_refused, cone_found, onward, staged_refused, staged_done}
-use borrow.Author.Rules.{rules}
 use Rattle.preparation32.proofs.mark_in.Goals as goal
 
 pub body_cone-requires : goal.body_cone-requires

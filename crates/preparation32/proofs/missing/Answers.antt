@@ -1,7 +1,6 @@
 -- Written by tools/widen from crates/preparation/proofs/missing/Answers.antt: edit that one.
 use mathlib.Core.Path.{sym}
 use Rattle.preparation.proofs.StageLaws.{ready_pass, listed_refused, listed_done}
-use borrow.Author.Rules.{rules}
 use Rattle.preparation32.proofs.missing.Goals as goal
 
 pub mark-requires : goal.mark-requires

@@ -2,7 +2,6 @@
 use mathlib.Core.Path.{sym}
 use native.Mathlib.Omega.{arith}
 use Rattle.preparation.proofs.PassLaws.{cone_flags, start_prepared, based₂, tables₂, running₂, passing₃}
-use borrow.Author.Rules.{rules}
 use Rattle.preparation32.proofs.pass.Goals as goal
 
 pub cyclic_cone-c-requires : goal.cyclic_cone-c-requires

@@ -1,7 +1,6 @@
 -- Written by tools/widen from crates/preparation/proofs/walk/Answers.antt: edit that one.
 use Rattle.area.proofs.FillLaws.{filled}
 use Rattle.preparation.proofs.WalkLaws.{atoms_part, ready₁, tables₁, marked₁, marking₁}
-use borrow.Author.Rules.{rules}
 use Rattle.preparation32.proofs.walk.Goals as goal
 
 pub cyclic_atoms-requires : goal.cyclic_atoms-requires

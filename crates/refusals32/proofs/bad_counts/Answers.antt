@@ -4,7 +4,6 @@ use native.Mathlib.Omega.{arith}
 use borrow.Author.Tests.{lt-ltb, le-ltb}
 use Rattle.theory.specs.Accepted.{edition2}
 use Rattle.refusals.specs.Refusals.{bad_counts}
-use borrow.Author.Rules.{rules}
 use Rattle.refusals32.proofs.bad_counts.Goals as goal
 
 pub returns-then-atoms-gt-COUNTS : goal.returns-then-atoms-gt-COUNTS

@@ -4,7 +4,6 @@ use native.Mathlib.Omega.{arith}
 use lib.ListN.{length}
 use borrow.Author.Tests.{lt-ltb, le-ltb}
 use Rattle.refusals.specs.Refusals.{bad_edition}
-use borrow.Author.Rules.{rules}
 use Rattle.refusals32.proofs.bad_edition.Goals as goal
 
 pub returns-then-graph-lt5 : goal.returns-then-graph-lt5

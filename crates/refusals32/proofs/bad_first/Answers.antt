@@ -3,7 +3,6 @@ use mathlib.Core.Path.{refl}
 use native.Mathlib.Omega.{arith}
 use borrow.Author.Tests.{lt-ltb, le-ltb}
 use Rattle.refusals.specs.Refusals.{bad_first}
-use borrow.Author.Rules.{rules}
 use Rattle.refusals32.proofs.bad_first.Goals as goal
 
 pub returns-then-links-first : goal.returns-then-links-first

@@ -1,12 +1,8 @@
 -- Written by tools/widen from crates/refusals/proofs/bad_link/Answers.antt: edit that one.
 use native.Mathlib.Omega.{arith}
-use Prim.Native.Nat.{◌+◌, ◌≤◌, ◌-◌}
-use Rattle.refusals.specs.Search.{Clear}
-use Rattle.refusals.specs.Refusals.{bad_link}
 use Rattle.refusals.proofs.SearchLaws.{clear_more, first_found, first_none}
 use Rattle.refusals.proofs.RowLaws.{upward_passes, link_told}
 use Rattle.graph.proofs.DecodeLaws.{next_of_lem, link_within}
-use borrow.Author.Rules.{rules}
 use Rattle.refusals32.proofs.bad_link.Goals as goal
 
 pub loop-l-init : goal.loop-l-init

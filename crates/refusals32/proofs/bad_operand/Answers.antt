@@ -1,7 +1,6 @@
 -- Written by tools/widen from crates/refusals/proofs/bad_operand/Answers.antt: edit that one.
 use mathlib.Core.Path.{refl}
 use Rattle.refusals.specs.Refusals.{bad_operand}
-use borrow.Author.Rules.{rules}
 use Rattle.refusals32.proofs.bad_operand.Goals as goal
 
 pub returns-then-takes_operand : goal.returns-then-takes_operand

@@ -1,11 +1,7 @@
 -- Written by tools/widen from crates/refusals/proofs/bad_producer/Invariants.antt: edit that one.
-use native.Mathlib.Omega.{arith}
 use Prim.Native.Nat.{◌≤◌, ◌-◌}
 use Rattle.refusals.specs.Search.{Clear}
 use Rattle.refusals.specs.Refusals.{bad_producer}
-use Rattle.refusals.proofs.SearchLaws.{clear_none, clear_more, first_found, first_none}
-use Rattle.refusals.proofs.RowLaws.{producer_told}
-use borrow.Author.Rules.{rules}
 use Rattle.refusals32.proofs.bad_producer.Given as goal
 
 abbrev pub invariant-loop-p : goal.invariant-loop-p

@@ -1,12 +1,8 @@
 -- Written by tools/widen from crates/refusals/proofs/first_turn/Answers.antt: edit that one.
 use native.Mathlib.Omega.{arith}
-use Prim.Native.Nat.{◌+◌, ◌≤◌, ◌-◌}
-use Rattle.refusals.specs.Search.{Clear}
-use Rattle.refusals.specs.Passed.{turns_at}
 use Rattle.refusals.proofs.SearchLaws.{clear_none, clear_more, first_found, first_none}
 use Rattle.refusals.proofs.RowLaws.{turn_told}
 use Rattle.graph.proofs.DecodeLaws.{next_of_lem, link_within}
-use borrow.Author.Rules.{rules}
 use Rattle.refusals32.proofs.first_turn.Goals as goal
 
 pub loop-l-init : goal.loop-l-init

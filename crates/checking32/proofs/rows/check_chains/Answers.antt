@@ -1,12 +1,10 @@
 -- Written by tools/widen from crates/checking/proofs/rows/check_chains/Answers.antt: edit that one.
-use mathlib.Core.Path.{refl}
 use native.Mathlib.Omega.{arith}
 use lib.ListN.{get_or}
 use Rattle.refusals.specs.Answer.{first_refusal}
 use Rattle.refusals.specs.Refusals.{graph_rows}
 use Rattle.refusals.proofs.SearchLaws.{first_clear, row_refuses, row_passes}
 use Rattle.refusals.proofs.RowLaws.{chained}
-use borrow.Author.Rules.{rules}
 use Rattle.checking32.proofs.rows.check_chains.Goals as goal
 
 pub returns-then-n-nodes : goal.returns-then-n-nodes

@@ -9,7 +9,6 @@ use borrow.Author.Tests.{lt-ltb, le-ltb}
 use Rattle.refusals.specs.Refusals.{graph_rows, bad_entries}
 use Rattle.refusals.proofs.SearchLaws.{row_refuses, row_passes}
 use Rattle.checking.proofs.WalkLaws.{walked_wrong, walked_fine}
-use borrow.Author.Rules.{rules}
 use Rattle.checking32.proofs.rows.check_heads.Goals as goal
 
 pub overflow_cast-result : goal.overflow_cast-result

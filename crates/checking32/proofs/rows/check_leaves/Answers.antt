@@ -5,7 +5,6 @@ use Rattle.refusals.specs.Answer.{first_refusal}
 use Rattle.refusals.specs.Refusals.{graph_rows}
 use Rattle.refusals.proofs.SearchLaws.{row_refuses, row_passes}
 use Rattle.checking.proofs.WalkLaws.{walked_wrong, walked_fine}
-use borrow.Author.Rules.{rules}
 use Rattle.checking32.proofs.rows.check_leaves.Goals as goal
 
 pub overflow_cast-result : goal.overflow_cast-result

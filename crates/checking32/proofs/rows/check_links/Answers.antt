@@ -7,7 +7,6 @@ use Rattle.refusals.specs.Answer.{first_refusal}
 use Rattle.refusals.specs.Refusals.{bad_link, leaves_back, heads_back, graph_rows}
 use Rattle.refusals.proofs.SearchLaws.{first_none, first_clear, row_refuses, row_passes}
 use Rattle.refusals.proofs.RowLaws.{linked, upward_passes, upward_leaves, upward_heads, chained}
-use borrow.Author.Rules.{rules}
 use Rattle.checking32.proofs.rows.check_links.Goals as goal
 
 pub check_leaves-requires : goal.check_leaves-requires

@@ -4,7 +4,6 @@ use lib.ListN.{get_or}
 use Rattle.refusals.specs.Answer.{first_refusal}
 use Rattle.refusals.specs.Refusals.{graph_rows}
 use Rattle.refusals.proofs.SearchLaws.{first_clear, row_refuses, row_passes}
-use borrow.Author.Rules.{rules}
 use Rattle.checking32.proofs.rows.check_records.Goals as goal
 
 pub returns-then-n-nodes : goal.returns-then-n-nodes

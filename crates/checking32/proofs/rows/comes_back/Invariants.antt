@@ -1,9 +1,5 @@
 -- Written by tools/widen from crates/checking/proofs/rows/comes_back/Invariants.antt: edit that one.
-use mathlib.Core.Path.{sym}
-use native.Mathlib.Omega.{arith}
-use Rattle.checking.proofs.FollowLaws.{Toward, toward_first, toward_end, toward_back, toward_next}
-use Rattle.graph.proofs.DecodeLaws.{next_of_lem, link_within}
-use borrow.Author.Rules.{rules}
+use Rattle.checking.proofs.FollowLaws.{Toward}
 use Rattle.checking32.proofs.rows.comes_back.Given as goal
 
 abbrev pub invariant-loop-l : goal.invariant-loop-l

@@ -1,11 +1,7 @@
 -- Written by tools/widen from crates/checking/proofs/rows/heads_back/Invariants.antt: edit that one.
-use native.Mathlib.Omega.{arith}
 use Prim.Native.Nat.{◌≤◌, ◌-◌}
 use Rattle.refusals.specs.Search.{Clear}
 use Rattle.refusals.specs.Refusals.{heads_back}
-use Rattle.refusals.proofs.SearchLaws.{clear_none, clear_more, first_found, first_none}
-use Rattle.refusals.proofs.RowLaws.{back_told}
-use borrow.Author.Rules.{rules}
 use Rattle.checking32.proofs.rows.heads_back.Given as goal
 
 abbrev pub invariant-loop-p : goal.invariant-loop-p

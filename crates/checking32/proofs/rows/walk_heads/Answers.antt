@@ -1,15 +1,11 @@
 -- Written by tools/widen from crates/checking/proofs/rows/walk_heads/Answers.antt: edit that one.
 use native.Mathlib.Omega.{arith}
 use native.Mathlib.Nat.{le_trans}
-use Prim.Native.Nat.{◌≤◌, ◌-◌}
-use lib.ListN.{length, get_or}
-use Rattle.theory.specs.Words.{chain, theory_of}
+use Rattle.theory.specs.Words.{theory_of}
 use Rattle.theory.specs.Accepted.{edition2}
 use Rattle.theory.proofs.ChainLaws.{once_link, chain_falls, chain_few}
-use Rattle.graph.specs.Layout.{head_link}
-use Rattle.checking.proofs.FollowLaws.{Between, Along, between_none, between_all, along_first, along_wrong, along_next, along_end, along_few}
+use Rattle.checking.proofs.FollowLaws.{between_none, between_all, along_first, along_wrong, along_next, along_end, along_few}
 use Rattle.graph.proofs.DecodeLaws.{value_of_lem, next_of_lem, link_within}
-use borrow.Author.Rules.{rules}
 use Rattle.checking32.proofs.rows.walk_heads.Goals as goal
 
 pub producers-init : goal.producers-init

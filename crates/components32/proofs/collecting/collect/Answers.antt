@@ -3,7 +3,6 @@ use mathlib.Core.Path.{sym, ◌∙◌}
 use native.Mathlib.Omega.{arith}
 use lib.ListN.{length-set}
 use Rattle.components.proofs.CollectLaws.{collect_ready, collect_room, collect_fresh, collect_met}
-use borrow.Author.Rules.{rules}
 use Rattle.components32.proofs.collecting.collect.Goals as goal
 
 pub overflow_add-m : goal.overflow_add-m

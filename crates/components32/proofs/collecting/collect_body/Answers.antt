@@ -1,6 +1,5 @@
 -- Written by tools/widen from crates/components/proofs/collecting/collect_body/Answers.antt: edit that one.
 use native.Mathlib.Omega.{arith}
-use borrow.Author.Rules.{rules}
 use Rattle.components32.proofs.collecting.collect_body.Goals as goal
 
 pub row_start-from-requires : goal.row_start-from-requires

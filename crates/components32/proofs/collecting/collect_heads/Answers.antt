@@ -2,15 +2,10 @@
 use mathlib.Core.Path.{◌≡◌, refl}
 use mathlib.Core.List.{[], ◌∷◌}
 use native.Mathlib.Omega.{arith}
-use lib.ListN.{length}
-use Rattle.theory.specs.Words.{theory_of, chain}
-use Rattle.theory.specs.Links.{MeetsOnce}
-use Rattle.theory.specs.Drive.{Drives}
 use Rattle.theory.proofs.ChainLaws.{once_next, chain_end, chain_falls}
 use Rattle.theory.proofs.DriveLaws.{drives_none, turn_next, turn_more, chain_turn}
 use Rattle.graph.proofs.DecodeLaws.{the_heads, value_of_lem, next_of_lem, link_in}
 use Rattle.components.specs.Gathering.{Gathering}
-use borrow.Author.Rules.{rules}
 use Rattle.components32.proofs.collecting.collect_heads.Goals as goal
 
 pub links_from-from-requires : goal.links_from-from-requires

@@ -1,14 +1,9 @@
 -- Written by tools/widen from crates/components/proofs/collecting/collect_nodes/Answers.antt: edit that one.
-use Prim.Native.Nat.{◌≤◌, ◌-◌}
 use native.Mathlib.Omega.{arith}
-use lib.Seq.{slice}
-use Rattle.theory.specs.Drive.{Drives}
 use Rattle.theory.proofs.DriveLaws.{drives_none}
-use Rattle.area.specs.Views.{as_vertices}
 use Rattle.components.specs.Gathering.{Gathering}
 use Rattle.events.proofs.TurnLaws.{nodes_next, nodes_more, nodes_done}
 use Rattle.components.proofs.CollectLaws.{collect_ready, tables_long}
-use borrow.Author.Rules.{rules}
 use Rattle.components32.proofs.collecting.collect_nodes.Goals as goal
 
 pub loop-i-init : goal.loop-i-init

@@ -1,15 +1,10 @@
 -- Written by tools/widen from crates/components/proofs/collecting/collect_producers/Invariants.antt: edit that one.
 use Prim.Native.Nat.{◌≤◌, ◌-◌}
-use native.Mathlib.Omega.{arith}
 use lib.Seq.{slice}
 use Rattle.theory.specs.Words.{theory_of}
 use Rattle.theory.specs.Rows.{flat_map}
 use Rattle.theory.specs.Drive.{Drives}
-use Rattle.theory.proofs.DriveLaws.{drives_none}
 use Rattle.components.specs.Gathering.{Gathering}
-use Rattle.events.proofs.TurnLaws.{word_same, flat_next, flat_more, flat_done}
-use Rattle.components.proofs.CollectLaws.{tables_long}
-use borrow.Author.Rules.{rules}
 use Rattle.components32.proofs.collecting.collect_producers.Given as goal
 
 abbrev pub invariant-loop-i : goal.invariant-loop-i

@@ -2,7 +2,6 @@
 use Prim.Native.Nat.{◌-◌}
 use native.Mathlib.Omega.{arith}
 use Rattle.events.proofs.VertexLaws.{atom_spanned, atom_row, parents_spanned, body_spanned, body_named, parents_next, later, body_next, node_done}
-use borrow.Author.Rules.{rules}
 use Rattle.components32.proofs.collecting.collect_vertex.Goals as goal
 
 pub collect_row-requires : goal.collect_row-requires

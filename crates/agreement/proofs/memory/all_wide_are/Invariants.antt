@@ -1,0 +1,13 @@
+use Prim.Native.Nat.{◌-◌}
+use mathlib.Core.Path.{sym}
+use native.Mathlib.Omega.{arith}
+use lib.ListN.{length, replicate, length-replicate}
+use Rattle.agreement.proofs.CompareLaws.{Alike, alike_none, alike_yes, all_more, all_no}
+use borrow.Author.Rules.{rules}
+use Rattle.agreement.proofs.memory.all_wide_are.Given as goal
+
+abbrev pub invariant-loop-i : goal.invariant-loop-i
+invariant-loop-i l = Alike l.words (replicate (length l.words) l.word) l.i
+
+abbrev pub decreases-loop-i : goal.decreases-loop-i
+decreases-loop-i l = length l.words - l.i

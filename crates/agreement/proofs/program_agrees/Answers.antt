@@ -1,0 +1,6 @@
+use Rattle.agreement.proofs.ReplyLaws.{program_says}
+use borrow.Author.Rules.{rules}
+use Rattle.agreement.proofs.program_agrees.Goals as goal
+
+pub returns : goal.returns
+returns c = program_says c.report-n.ensures c.same_bytes.ensures
