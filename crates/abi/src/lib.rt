@@ -2,8 +2,8 @@
 // same four on graphs of edition 2, and length.rt how long a work area edition 2 asks for.
 #![tactic(auto)]
 
-mod length;
-mod wide;
+pub mod length;
+pub mod wide;
 
 ghost use Rattle.std.specs.Prelude.{◌<◌};
 ghost use Rattle.theory.specs.Accepted.{edition1};

@@ -1,0 +1,91 @@
+// The static library that C and Rust link: each export is the call of crate abi that has its name, under the same clauses. A slice crosses as a pointer and a length.
+#![tactic(auto)]
+
+ghost use Rattle.std.specs.Prelude.{◌≡◌};
+ghost use Rattle.theory.specs.Accepted.{edition1, edition2};
+ghost use Rattle.refusals.specs.Refusals.{graph_answer};
+ghost use Rattle.abi.specs.Codes.{Tells, Needed, PreparedAs, CompletedAs, work_words};
+
+// Graphs of edition 1: the graph check.
+#[unsafe(no_mangle)]
+pub extern "C" fn founded_check(graph: &[u16]) -> u32
+    ensures { Tells 65536 (graph_answer edition1 graph.now) result }
+{
+    abi::founded_check(graph)
+}
+
+// The loop test.
+#[unsafe(no_mangle)]
+pub extern "C" fn founded_needed(graph: &[u16], work: &mut [u16]) -> u32
+    ensures { Needed 65536 edition1 graph.now work.old work.new result }
+{
+    abi::founded_needed(graph, work)
+}
+
+// Preparation: the cyclic atoms.
+#[unsafe(no_mangle)]
+pub extern "C" fn founded_prepare(graph: &[u16], output: &mut [u64], work: &mut [u16]) -> u32
+    ensures { PreparedAs 65536 edition1 graph.now output.old work.old output.new work.new result }
+{
+    abi::founded_prepare(graph, output, work)
+}
+
+// The pass: the missing atoms.
+#[unsafe(no_mangle)]
+pub extern "C" fn founded_complete(
+    graph: &[u16],
+    never: &[u64],
+    atom_never: &[u64],
+    output: &mut [u64],
+    work: &mut [u16],
+) -> u32
+    ensures { CompletedAs 65536 edition1 graph.now never.now atom_never.now output.old work.old output.new work.new result }
+{
+    abi::founded_complete(graph, never, atom_never, output, work)
+}
+
+// Graphs of edition 2: the graph check.
+#[unsafe(no_mangle)]
+pub extern "C" fn founded_wide_check(graph: &[u32]) -> u64
+    ensures { Tells 4294967296 (graph_answer edition2 graph.now) result }
+{
+    abi::wide::founded_wide_check(graph)
+}
+
+// The loop test.
+#[unsafe(no_mangle)]
+pub extern "C" fn founded_wide_needed(graph: &[u32], work: &mut [u32]) -> u64
+    ensures { Needed 4294967296 edition2 graph.now work.old work.new result }
+{
+    abi::wide::founded_wide_needed(graph, work)
+}
+
+// Preparation: the cyclic atoms.
+#[unsafe(no_mangle)]
+pub extern "C" fn founded_wide_prepare(graph: &[u32], output: &mut [u64], work: &mut [u32]) -> u64
+    ensures { PreparedAs 4294967296 edition2 graph.now output.old work.old output.new work.new result }
+{
+    abi::wide::founded_wide_prepare(graph, output, work)
+}
+
+// The pass: the missing atoms.
+#[unsafe(no_mangle)]
+pub extern "C" fn founded_wide_complete(
+    graph: &[u32],
+    never: &[u64],
+    atom_never: &[u64],
+    output: &mut [u64],
+    work: &mut [u32],
+) -> u64
+    ensures { CompletedAs 4294967296 edition2 graph.now never.now atom_never.now output.old work.old output.new work.new result }
+{
+    abi::wide::founded_wide_complete(graph, never, atom_never, output, work)
+}
+
+// How many words a work area the calls on graphs of edition 2 ask for; 0 for a graph that is refused.
+#[unsafe(no_mangle)]
+pub extern "C" fn founded_wide_work_words(graph: &[u32]) -> u64
+    ensures { result ≡ work_words edition2 graph.now }
+{
+    abi::length::founded_wide_work_words(graph)
+}
