@@ -1,4 +1,3 @@
-use borrow.Author.Rules.{rules}
 use Rattle.agreement.proofs.complete_agrees.Goals as goal
 
 pub returns : goal.returns

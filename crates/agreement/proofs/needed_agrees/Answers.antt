@@ -1,6 +1,5 @@
 use mathlib.Core.Path.{sym, ◌∙◌}
 use Rattle.agreement.proofs.ReplyLaws.{first_no, second_says}
-use borrow.Author.Rules.{rules}
 use Rattle.agreement.proofs.needed_agrees.Goals as goal
 
 pub returns-then-code-needed_code : goal.returns-then-code-needed_code

@@ -1,6 +1,5 @@
 use Rattle.std.proofs.Common.{ap, not}
 use Rattle.agreement.proofs.ReplyLaws.{number_no, place_no, output_no, work_says, holds}
-use borrow.Author.Rules.{rules}
 use Rattle.agreement.proofs.outcome_agrees.Goals as goal
 
 pub returns-then-code-number : goal.returns-then-code-number

@@ -1,5 +1,4 @@
 use borrow.Author.Tests.{ne_eqb}
-use borrow.Author.Rules.{rules}
 use Rattle.agreement.proofs.place_agrees.Goals as goal
 
 pub returns-then-number-eq0 : goal.returns-then-number-eq0

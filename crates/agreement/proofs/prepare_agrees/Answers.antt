@@ -1,4 +1,3 @@
-use borrow.Author.Rules.{rules}
 use Rattle.agreement.proofs.prepare_agrees.Goals as goal
 
 pub returns : goal.returns

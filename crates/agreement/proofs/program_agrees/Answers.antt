@@ -1,5 +1,4 @@
 use Rattle.agreement.proofs.ReplyLaws.{program_says}
-use borrow.Author.Rules.{rules}
 use Rattle.agreement.proofs.program_agrees.Goals as goal
 
 pub returns : goal.returns

@@ -1,9 +1,6 @@
 use Prim.Native.Nat.{◌-◌}
-use mathlib.Core.Path.{sym}
-use native.Mathlib.Omega.{arith}
-use lib.ListN.{length, replicate, length-replicate}
-use Rattle.agreement.proofs.CompareLaws.{Alike, alike_none, alike_yes, all_more, all_no}
-use borrow.Author.Rules.{rules}
+use lib.ListN.{length, replicate}
+use Rattle.agreement.proofs.CompareLaws.{Alike}
 use Rattle.agreement.proofs.memory.all_are.Given as goal
 
 abbrev pub invariant-loop-i : goal.invariant-loop-i

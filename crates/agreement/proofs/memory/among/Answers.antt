@@ -1,8 +1,5 @@
-use Prim.Native.Nat.{◌-◌}
 use native.Mathlib.Omega.{arith}
-use lib.ListN.{length}
-use Rattle.agreement.proofs.CompareLaws.{Absent, absent_none, absent_more, among_yes, among_no}
-use borrow.Author.Rules.{rules}
+use Rattle.agreement.proofs.CompareLaws.{absent_none, absent_more, among_yes, among_no}
 use Rattle.agreement.proofs.memory.among.Goals as goal
 
 pub loop-i-init : goal.loop-i-init

@@ -1,8 +1,6 @@
 use Prim.Native.Nat.{◌-◌}
-use native.Mathlib.Omega.{arith}
 use lib.ListN.{length}
-use Rattle.agreement.proofs.CompareLaws.{Absent, absent_none, absent_more, among_yes, among_no}
-use borrow.Author.Rules.{rules}
+use Rattle.agreement.proofs.CompareLaws.{Absent}
 use Rattle.agreement.proofs.memory.among.Given as goal
 
 abbrev pub invariant-loop-i : goal.invariant-loop-i

@@ -1,8 +1,5 @@
-use Prim.Native.Nat.{◌-◌}
 use native.Mathlib.Omega.{arith}
-use lib.ListN.{length}
-use Rattle.agreement.proofs.CompareLaws.{Alike, alike_none, alike_more, alike_yes, alike_no, lengths_no}
-use borrow.Author.Rules.{rules}
+use Rattle.agreement.proofs.CompareLaws.{alike_none, alike_more, alike_yes, alike_no, lengths_no}
 use Rattle.agreement.proofs.memory.same_wide.Goals as goal
 
 pub returns-then-these-those : goal.returns-then-these-those

@@ -1,8 +1,6 @@
 use Prim.Native.Nat.{◌-◌}
-use native.Mathlib.Omega.{arith}
 use lib.ListN.{length}
-use Rattle.agreement.proofs.CompareLaws.{Alike, alike_none, alike_more, alike_yes, alike_no, lengths_no}
-use borrow.Author.Rules.{rules}
+use Rattle.agreement.proofs.CompareLaws.{Alike}
 use Rattle.agreement.proofs.memory.same_wide.Given as goal
 
 abbrev pub invariant-loop-i : goal.invariant-loop-i

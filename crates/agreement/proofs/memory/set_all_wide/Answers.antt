@@ -1,8 +1,5 @@
-use mathlib.Core.Path.{◌≡◌, refl}
-use mathlib.Core.List.{◌++◌}
-use Prim.Native.Nat.{◌≤◌, ◌-◌}
+use mathlib.Core.Path.{refl}
 use native.Mathlib.Omega.{arith}
-use lib.ListN.{length, drop, replicate}
 use borrow.Author.Fill.{fill_more}
 use Rattle.agreement.proofs.CompareLaws.{filled}
 use borrow.Author.Rules.{rules}

@@ -1,11 +1,7 @@
-use mathlib.Core.Path.{◌≡◌, refl}
+use mathlib.Core.Path.{◌≡◌}
 use mathlib.Core.List.{◌++◌}
 use Prim.Native.Nat.{◌≤◌, ◌-◌}
-use native.Mathlib.Omega.{arith}
 use lib.ListN.{length, drop, replicate}
-use borrow.Author.Fill.{fill_more}
-use Rattle.agreement.proofs.CompareLaws.{filled}
-use borrow.Author.Rules.{rules}
 use Rattle.agreement.proofs.memory.set_all_wide.Given as goal
 
 abbrev pub invariant-loop-i : goal.invariant-loop-i
