@@ -1,3 +1,4 @@
 pub mod KindLaws
 pub mod DecodeLaws
 pub mod FollowLaws
+pub mod ReaderLaws
