@@ -3,6 +3,7 @@ ghost use Rattle.std.specs.Prelude.{◌≡◌};
 ghost use Rattle.theory.specs.Accepted.{edition2};
 ghost use Rattle.abi.specs.Codes.{work_words};
 
+use area::length::Area;
 use refusals::Checked;
 
 // Its words; 0 for a graph that is refused.
@@ -10,9 +11,9 @@ use refusals::Checked;
 pub extern "C" fn founded_wide_work_words(graph: &[u32]) -> u64
     ensures { result ≡ work_words edition2 graph.now }
 {
-    let checked = checking32::check(graph);
+    let checked = checking::check(graph);
     let Checked::Accepted = checked else {
         return 0;
     };
-    area32::length::words(graph) as u64
+    u32::area_words(graph) as u64
 }

@@ -2,67 +2,15 @@
 // same four on graphs of edition 2, and length.rt how long a work area edition 2 asks for.
 #![tactic(auto)]
 
+pub mod codes;
 pub mod length;
 pub mod wide;
 
-ghost use Rattle.std.specs.Prelude.{◌<◌};
 ghost use Rattle.theory.specs.Accepted.{edition1};
-ghost use Rattle.refusals.specs.Answer.{refuse};
-ghost use Rattle.refusals.specs.Refusals.{graph_answer, answer_of};
-ghost use Rattle.cycles.specs.Outcome.{outcome_of};
-ghost use Rattle.founded.specs.Answers.{prepared_of, completed_of};
-ghost use Rattle.abi.specs.Codes.{Tells, NeedTells, Placed, Needed, PreparedAs, CompletedAs};
+ghost use Rattle.refusals.specs.Refusals.{graph_answer};
+ghost use Rattle.abi.specs.Codes.{Tells, Needed, PreparedAs, CompletedAs};
 
-use cycles::Need;
-use founded::{Completed, Prepared};
-use refusals::Checked;
-
-// A refusal's code.
-fn code(number: usize, place: usize) -> u32
-    requires { (number < 65536) × (place < 65536) }
-    ensures { Tells 65536 (refuse number place) result }
-{
-    (number * 65536 + place) as u32
-}
-
-fn checked_code(c: Checked) -> u32
-    requires { (answer_of c).place < 65536 }
-    ensures { Tells 65536 (answer_of c) result }
-{
-    code(numbers::checked_number(c), numbers::checked_place(c))
-}
-
-fn needed_code(n: Need) -> u32
-    requires { Placed 65536 (outcome_of n) }
-    ensures { NeedTells 65536 (outcome_of n) result }
-{
-    match n {
-        Need::No => 0,
-        Need::Yes => 1,
-        Need::Refused(c) => checked_code(c),
-        Need::Work => code(11, 0),
-    }
-}
-
-fn prepared_code(p: Prepared) -> u32
-    requires { (prepared_of p).place < 65536 }
-    ensures { Tells 65536 (prepared_of p) result }
-{
-    match p {
-        Prepared::Done => 0,
-        Prepared::Refused(c) => checked_code(c),
-        Prepared::Output => code(10, 0),
-        Prepared::Work => code(11, 0),
-        Prepared::Absorbed(n) => code(12, n),
-    }
-}
-
-fn completed_code(c: Completed) -> u32
-    requires { (completed_of c).place < 65536 }
-    ensures { Tells 65536 (completed_of c) result }
-{
-    code(numbers::completed_number(c), numbers::completed_place(c))
-}
+use crate::codes::{checked_code, completed_code, needed_code, prepared_code};
 
 // The graph check.
 #[unsafe(no_mangle)]

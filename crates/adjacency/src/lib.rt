@@ -5,7 +5,7 @@
 ghost use Rattle.std.specs.Prelude.{◌≡◌, [], ◌∷◌, ◌+◌, ◌<◌, ◌≤◌, length};
 ghost use Rattle.theory.specs.Words.{chain, theory_of};
 ghost use Rattle.theory.specs.Links.{MeetsOnce};
-ghost use Rattle.theory.specs.Accepted.{Accepted, edition1};
+ghost use Rattle.theory.specs.Accepted.{Accepted};
 ghost use Rattle.theory.specs.Rows.{edge, tagged, body_keys, atom_keys};
 ghost use Rattle.theory.specs.Drive.{Follows, Drives};
 ghost use Rattle.area.specs.Layout.{Based};
@@ -13,6 +13,7 @@ ghost use Rattle.adjacency.specs.Tables.{keys_of, items_of, rows_of, edges_of, b
 ghost use Rattle.adjacency.specs.Building.{Building, Summed, sum_of};
 
 use area::Bases;
+use words::Word;
 
 // Nodes per atom, parents per node, producers per head, producers per body.
 #[derive(Clone, Copy)]
@@ -24,29 +25,29 @@ pub enum Table {
 }
 
 // An edge: while counting, one more in its row; while filling, the row's next entry.
-fn place(part: &mut [u16], rows: usize, filling: bool, row: usize, entry: usize)
-    requires { Follows (Building 65536 filling rows) part.old 0 (edge row entry ∷ []) }
-    ensures { Drives (Building 65536 filling rows) 0 part.old 0 (edge row entry ∷ []) part.new 0 [] }
+fn place<W: Word>(part: &mut [W], rows: usize, filling: bool, row: usize, entry: usize)
+    requires { Follows (Building W.limit filling rows) (W.numbers part.old) 0 (edge row entry ∷ []) }
+    ensures { Drives (Building W.limit filling rows) 0 (W.numbers part.old) 0 (edge row entry ∷ []) (W.numbers part.new) 0 [] }
 {
     let cursor = counters::add(part, row + 1, 1);
     if filling {
-        area::put(part, rows + 1 + cursor, entry);
+        words::put(part, rows + 1 + cursor, entry);
         return;
     }
 }
 
 // An item's edges along a chain.
-fn place_chain(
-    graph: &[u16],
-    part: &mut [u16],
+fn place_chain<W: Word>(
+    graph: &[W],
+    part: &mut [W],
     rows: usize,
     filling: bool,
     first: usize,
     item: usize,
 )
-    requires accepted { Accepted edition1 graph.now × MeetsOnce graph.now first }
-    requires follows { Follows (Building 65536 filling rows) part.old 0 (tagged item (chain graph.now first)) }
-    ensures { Drives (Building 65536 filling rows) 0 part.old 0 (tagged item (chain graph.now first)) part.new 0 [] }
+    requires accepted { Accepted W.edition (W.numbers graph.now) × MeetsOnce (W.numbers graph.now) first }
+    requires follows { Follows (Building W.limit filling rows) (W.numbers part.old) 0 (tagged item (chain (W.numbers graph.now) first)) }
+    ensures { Drives (Building W.limit filling rows) 0 (W.numbers part.old) 0 (tagged item (chain (W.numbers graph.now) first)) (W.numbers part.new) 0 [] }
 {
     let from = graph::links_from(graph);
     let mut l = first;
@@ -58,10 +59,10 @@ fn place_chain(
 }
 
 // A node's edge to the atom that it names.
-fn place_atom(graph: &[u16], part: &mut [u16], rows: usize, filling: bool, n: usize)
-    requires accepted { Accepted edition1 graph.now × (n < (theory_of graph.now).nodes) }
-    requires follows { Follows (Building 65536 filling rows) part.old 0 (tagged n (atom_keys (theory_of graph.now) ((theory_of graph.now).kind n) n)) }
-    ensures { Drives (Building 65536 filling rows) 0 part.old 0 (tagged n (atom_keys (theory_of graph.now) ((theory_of graph.now).kind n) n)) part.new 0 [] }
+fn place_atom<W: Word>(graph: &[W], part: &mut [W], rows: usize, filling: bool, n: usize)
+    requires accepted { Accepted W.edition (W.numbers graph.now) × (n < (theory_of (W.numbers graph.now)).nodes) }
+    requires follows { Follows (Building W.limit filling rows) (W.numbers part.old) 0 (tagged n (atom_keys (theory_of (W.numbers graph.now)) ((theory_of (W.numbers graph.now)).kind n) n)) }
+    ensures { Drives (Building W.limit filling rows) 0 (W.numbers part.old) 0 (tagged n (atom_keys (theory_of (W.numbers graph.now)) ((theory_of (W.numbers graph.now)).kind n) n)) (W.numbers part.new) 0 [] }
 {
     if graph::kind(graph, n) == 1 {
         place(part, rows, filling, graph::operand(graph, n), n);
@@ -70,10 +71,10 @@ fn place_atom(graph: &[u16], part: &mut [u16], rows: usize, filling: bool, n: us
 }
 
 // A producer's edge to its body.
-fn place_body(graph: &[u16], part: &mut [u16], rows: usize, filling: bool, p: usize)
-    requires accepted { Accepted edition1 graph.now × (p < (theory_of graph.now).producers) }
-    requires follows { Follows (Building 65536 filling rows) part.old 0 (tagged p (body_keys ((theory_of graph.now).body p))) }
-    ensures { Drives (Building 65536 filling rows) 0 part.old 0 (tagged p (body_keys ((theory_of graph.now).body p))) part.new 0 [] }
+fn place_body<W: Word>(graph: &[W], part: &mut [W], rows: usize, filling: bool, p: usize)
+    requires accepted { Accepted W.edition (W.numbers graph.now) × (p < (theory_of (W.numbers graph.now)).producers) }
+    requires follows { Follows (Building W.limit filling rows) (W.numbers part.old) 0 (tagged p (body_keys ((theory_of (W.numbers graph.now)).body p))) }
+    ensures { Drives (Building W.limit filling rows) 0 (W.numbers part.old) 0 (tagged p (body_keys ((theory_of (W.numbers graph.now)).body p))) (W.numbers part.new) 0 [] }
 {
     let body = graph::body(graph, p);
     if body > 0 {
@@ -83,10 +84,17 @@ fn place_body(graph: &[u16], part: &mut [u16], rows: usize, filling: bool, p: us
 }
 
 // An item's edges.
-fn place_item(graph: &[u16], part: &mut [u16], rows: usize, filling: bool, table: Table, i: usize)
-    requires accepted { Accepted edition1 graph.now × (i < items_of (theory_of graph.now) table) }
-    requires follows { Follows (Building 65536 filling rows) part.old 0 (tagged i (keys_of (theory_of graph.now) table i)) }
-    ensures { Drives (Building 65536 filling rows) 0 part.old 0 (tagged i (keys_of (theory_of graph.now) table i)) part.new 0 [] }
+fn place_item<W: Word>(
+    graph: &[W],
+    part: &mut [W],
+    rows: usize,
+    filling: bool,
+    table: Table,
+    i: usize,
+)
+    requires accepted { Accepted W.edition (W.numbers graph.now) × (i < items_of (theory_of (W.numbers graph.now)) table) }
+    requires follows { Follows (Building W.limit filling rows) (W.numbers part.old) 0 (tagged i (keys_of (theory_of (W.numbers graph.now)) table i)) }
+    ensures { Drives (Building W.limit filling rows) 0 (W.numbers part.old) 0 (tagged i (keys_of (theory_of (W.numbers graph.now)) table i)) (W.numbers part.new) 0 [] }
 {
     match table {
         Table::AtomNodes => place_atom(graph, part, rows, filling, i),
@@ -97,9 +105,9 @@ fn place_item(graph: &[u16], part: &mut [u16], rows: usize, filling: bool, table
 }
 
 // How many items a table has.
-fn items(graph: &[u16], table: Table) -> usize
-    requires { Accepted edition1 graph.now }
-    ensures { result ≡ items_of (theory_of graph.now) table }
+fn items<W: Word>(graph: &[W], table: Table) -> usize
+    requires { Accepted W.edition (W.numbers graph.now) }
+    ensures { result ≡ items_of (theory_of (W.numbers graph.now)) table }
 {
     match table {
         Table::AtomNodes => graph::nodes(graph),
@@ -110,9 +118,9 @@ fn items(graph: &[u16], table: Table) -> usize
 }
 
 // How many rows.
-fn rows_in(graph: &[u16], table: Table) -> usize
-    requires { Accepted edition1 graph.now }
-    ensures { result ≡ rows_of (theory_of graph.now) table }
+fn rows_in<W: Word>(graph: &[W], table: Table) -> usize
+    requires { Accepted W.edition (W.numbers graph.now) }
+    ensures { result ≡ rows_of (theory_of (W.numbers graph.now)) table }
 {
     match table {
         Table::AtomNodes => graph::atoms(graph),
@@ -123,10 +131,10 @@ fn rows_in(graph: &[u16], table: Table) -> usize
 }
 
 // Every edge, item by item.
-fn place_all(graph: &[u16], part: &mut [u16], rows: usize, filling: bool, table: Table)
-    requires accepted { Accepted edition1 graph.now }
-    requires follows { Follows (Building 65536 filling rows) part.old 0 (edges_of (theory_of graph.now) table) }
-    ensures { Drives (Building 65536 filling rows) 0 part.old 0 (edges_of (theory_of graph.now) table) part.new 0 [] }
+fn place_all<W: Word>(graph: &[W], part: &mut [W], rows: usize, filling: bool, table: Table)
+    requires accepted { Accepted W.edition (W.numbers graph.now) }
+    requires follows { Follows (Building W.limit filling rows) (W.numbers part.old) 0 (edges_of (theory_of (W.numbers graph.now)) table) }
+    ensures { Drives (Building W.limit filling rows) 0 (W.numbers part.old) 0 (edges_of (theory_of (W.numbers graph.now)) table) (W.numbers part.new) 0 [] }
 {
     let n = items(graph, table);
     let mut i: usize = 0;
@@ -137,24 +145,24 @@ fn place_all(graph: &[u16], part: &mut [u16], rows: usize, filling: bool, table:
 }
 
 // Each row's count becomes its start.
-fn sum(part: &mut [u16], rows: usize)
-    requires { (rows + 1 ≤ length part.old) × (sum_of part.old rows < 65536) }
-    ensures { Summed part.old part.new rows (sum_of part.old rows) }
+fn sum<W: Word>(part: &mut [W], rows: usize)
+    requires { (rows + 1 ≤ length (W.numbers part.old)) × (sum_of (W.numbers part.old) rows < W.limit) }
+    ensures { Summed (W.numbers part.old) (W.numbers part.new) rows (sum_of (W.numbers part.old) rows) }
 {
     let mut total: usize = 0;
     let mut r: usize = 0;
     while r < rows {
-        let n = graph::at(part, r + 1);
-        area::put(part, r + 1, total);
+        let n = words::at(part, r + 1);
+        words::put(part, r + 1, total);
         total += n;
         r += 1;
     }
 }
 
 // A table in the lent part: row r is the entries of the edges in row r, in stream order.
-fn build(graph: &[u16], part: &mut [u16], table: Table)
-    requires { Accepted edition1 graph.now × (rows_of (theory_of graph.now) table + 1 + length (edges_of (theory_of graph.now) table) ≤ length part.old) }
-    ensures { Tabled (length part.old) part.new 0 (rows_of (theory_of graph.now) table) (edges_of (theory_of graph.now) table) }
+fn build<W: Word>(graph: &[W], part: &mut [W], table: Table)
+    requires { Accepted W.edition (W.numbers graph.now) × (rows_of (theory_of (W.numbers graph.now)) table + 1 + length (edges_of (theory_of (W.numbers graph.now)) table) ≤ length (W.numbers part.old)) }
+    ensures { Tabled (length (W.numbers part.old)) (W.numbers part.new) 0 (rows_of (theory_of (W.numbers graph.now)) table) (edges_of (theory_of (W.numbers graph.now)) table) }
 {
     let rows = rows_in(graph, table);
     area::clear(&mut part[..rows + 1]);
@@ -187,9 +195,9 @@ fn next(b: Bases, table: Table) -> usize
 }
 
 // A table in its part of the work area.
-pub fn build_in(graph: &[u16], work: &mut [u16], b: Bases, table: Table)
-    requires { Accepted edition1 graph.now × Based graph.now (length work.old) b }
-    ensures { Built (theory_of graph.now) b table work.old work.new }
+pub fn build_in<W: Word>(graph: &[W], work: &mut [W], b: Bases, table: Table)
+    requires { Accepted W.edition (W.numbers graph.now) × Based (W.numbers graph.now) (length (W.numbers work.old)) b }
+    ensures { Built (theory_of (W.numbers graph.now)) b table (W.numbers work.old) (W.numbers work.new) }
 {
     let from = base(b, table);
     let to = next(b, table);
@@ -197,9 +205,9 @@ pub fn build_in(graph: &[u16], work: &mut [u16], b: Bases, table: Table)
 }
 
 // Where the entries of row r begin, in the table of so many rows at base; they end where those of the next row begin.
-pub fn row_start(work: &[u16], base: usize, rows: usize, r: usize) -> usize
-    requires { (r ≤ rows) × (base + (rows + 1) ≤ length work.now) }
-    ensures { result ≡ start_at work.now base rows r }
+pub fn row_start<W: Word>(work: &[W], base: usize, rows: usize, r: usize) -> usize
+    requires { (r ≤ rows) × (base + (rows + 1) ≤ length (W.numbers work.now)) }
+    ensures { result ≡ start_at (W.numbers work.now) base rows r }
 {
-    base + (rows + 1) + graph::at(work, base + r)
+    base + (rows + 1) + words::at(work, base + r)
 }

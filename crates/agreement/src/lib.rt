@@ -93,7 +93,7 @@ pub fn check_agrees(graph: &[u16], number: u16, place: u16) -> bool
 pub fn needed_agrees(graph: &[u16], work: &mut [u16], number: u16, place: u16, reply: u16) -> bool
     ensures { NeededAgrees graph.now (length work.old) number place reply result }
 {
-    area::fill(work, SOIL);
+    words::fill(work, SOIL);
     let code = abi::founded_needed(graph, work);
     if code == needed_code(number, place, reply) {
         return work_agrees(number, work);
@@ -113,7 +113,7 @@ pub fn prepare_agrees(
     ensures { PrepareAgrees graph.now (length output.old) (length work.old) number places.now words.now result }
 {
     memory::set_all_wide(output, WIDE_SOIL);
-    area::fill(work, SOIL);
+    words::fill(work, SOIL);
     let code = abi::founded_prepare(graph, output, work);
     outcome_agrees(number, places, words, code, output, work)
 }
@@ -132,7 +132,7 @@ pub fn complete_agrees(
     ensures { CompleteAgrees graph.now never.now atom_never.now (length output.old) (length work.old) number places.now words.now result }
 {
     memory::set_all_wide(output, WIDE_SOIL);
-    area::fill(work, SOIL);
+    words::fill(work, SOIL);
     let code = abi::founded_complete(graph, never, atom_never, output, work);
     outcome_agrees(number, places, words, code, output, work)
 }

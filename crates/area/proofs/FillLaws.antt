@@ -1,9 +1,11 @@
 -- A part of the work area that was lent and came back with one value in every word.
-use mathlib.Core.Path.{◌≡◌, sym, ap, ◌∙◌}
+use mathlib.Core.Path.{◌≡◌, sym, ap, ◌∙◌, subst}
 use mathlib.Core.List.{List, ◌++◌}
 use Prim.Native.Nat.{ℕ, ◌+◌, ◌-◌, ◌≤◌, ◌<◌}
 use native.Mathlib.Omega.{arith}
 use lib.ListN.{length, get_or, take, drop, replicate, length-replicate, get_or-replicate, length-take, length-drop}
+use Rattle.std.proofs.Common.{map}
+use Rattle.words.proofs.NumberLaws.{numbers_part, numbers_splice}
 use Rattle.area.proofs.PartLaws.{part_length, part_before, part_after, part_at}
 
 -- from a to e every word of w' is x, and elsewhere it is that of w
@@ -31,3 +33,9 @@ filled {a} {e} {x} {w} {p} (h, k) same = record {
 
     long : length p ≡ e - a
     long = ap length same ∙ length-replicate (length (take (e - a) (drop a w))) x ∙ part
+
+-- the same of the numbers of words
+pub filled_words : {A : Type 0} {number : A → ℕ} {numbers : List A → List ℕ} (each : (ws : List A) → numbers ws ≡ map number ws) {a e x : ℕ} {ws vs : List A} → (a ≤ e) × (e ≤ length (numbers ws))
+    → numbers vs ≡ replicate (length (numbers (take (e - a) (drop a ws)))) x → Filled a e x (numbers ws) (numbers (take a ws ++ (vs ++ drop (e - a) (drop a ws))))
+filled_words {numbers = numbers} each {a = a} {e = e} {x = x} {ws = ws} {vs = vs} room same =
+    rw (numbers_splice each a (e - a) ws vs) (filled room (rw (← numbers_part each a (e - a) ws) same))

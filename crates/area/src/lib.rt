@@ -1,51 +1,31 @@
-// The work area's words: how many, storing, clearing, and where the regions begin. A word is read by `graph::at`.
+// The work area's words: how many, clearing, and where the regions begin.
 #![tactic(auto)]
 
 pub mod length;
 
 ghost use Rattle.std.specs.Prelude.{◌≡◌, true, ◌<◌, ◌≤◌, ◌^◌, length, set, replicate};
-ghost use Rattle.theory.specs.Accepted.{Accepted, edition1};
+ghost use Rattle.theory.specs.Accepted.{Accepted};
 ghost use Rattle.area.specs.Layout.{words_for, LaidOut, Roomy, Based};
 
-pub fn put(words: &mut [u16], i: usize, x: usize)
-    requires { (i < length words.old) × (x < 65536) }
-    ensures { words.new ≡ set words.old i x }
+pub fn clear<W: Word>(words: &mut [W])
+    ensures { (W.numbers words.new) ≡ replicate (length (W.numbers words.old)) 0 }
 {
-    words[i] = x as u16;
-}
-
-// Every word is x.
-pub fn fill(words: &mut [u16], x: u16)
-    ensures { words.new ≡ replicate (length words.old) x }
-{
-    let mut i: usize = 0;
-    while i < words.len() {
-        words[i] = x;
-        i += 1;
-    }
-}
-
-pub fn clear(words: &mut [u16])
-    ensures { words.new ≡ replicate (length words.old) 0 }
-{
-    fill(words, 0);
+    words::fill(words, W::of(0));
 }
 
 // Whether all words are 0; there is no branch on any of them.
-fn blank(words: &[u16]) -> bool
-    ensures { result ≡ true → words.now ≡ replicate (length words.now) 0 }
+fn blank<W: Word>(words: &[W]) -> bool
+    ensures { result ≡ true → (W.numbers words.now) ≡ replicate (length (W.numbers words.now)) 0 }
 {
-    let mut all: u16 = 0;
-    let mut j: usize = 0;
-    while j < words.len() {
-        all = all | words[j];
-        j += 1;
+    let mut all = W::of(0);
+    for word in words {
+        all = all.or(*word);
     }
-    all == 0
+    all.read() == 0
 }
 
-fn wipe_block(words: &mut [u16])
-    ensures { words.new ≡ replicate (length words.old) 0 }
+fn wipe_block<W: Word>(words: &mut [W])
+    ensures { (W.numbers words.new) ≡ replicate (length (W.numbers words.old)) 0 }
 {
     if blank(words) {
         return;
@@ -55,8 +35,8 @@ fn wipe_block(words: &mut [u16])
 
 // Clears what may be 0 already in most places: a block that is all 0 is read and not written. The work area is larger than the cache next to the
 // processor, and there reading takes less time than writing.
-pub fn wipe(words: &mut [u16])
-    ensures { words.new ≡ replicate (length words.old) 0 }
+pub fn wipe<W: Word>(words: &mut [W])
+    ensures { (W.numbers words.new) ≡ replicate (length (W.numbers words.old)) 0 }
 {
     let end = words.len();
     let mut from: usize = 0;
@@ -67,6 +47,8 @@ pub fn wipe(words: &mut [u16])
     }
     clear(&mut words[from..end]);
 }
+
+use words::Word;
 
 // A graph's counts, at most so many leaf entries and head entries, and where each region begins. A vertex has a pair of words: its mark (`states`)
 // and its count (`dependencies`).
@@ -132,9 +114,9 @@ pub fn lay_out(
 
 // Those of an accepted graph, in an area of so many words. A function with several callers, which is not inlined, works them out anew: handed over, a copy
 // would take 128 bytes of each caller's stack.
-pub fn bases_of(graph: &[u16], words: usize) -> Bases
-    requires { Accepted edition1 graph.now × Roomy graph.now words }
-    ensures { Based graph.now words result }
+pub fn bases_of<W: Word>(graph: &[W], words: usize) -> Bases
+    requires { Accepted W.edition (W.numbers graph.now) × Roomy (W.numbers graph.now) words }
+    ensures { Based (W.numbers graph.now) words result }
 {
     let atoms = graph::atoms(graph);
     let nodes = graph::nodes(graph);

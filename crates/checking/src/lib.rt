@@ -4,10 +4,10 @@
 mod rows;
 
 ghost use Rattle.std.specs.Prelude.{◌≡◌};
-ghost use Rattle.theory.specs.Accepted.{edition1};
 ghost use Rattle.refusals.specs.Refusals.{graph_answer, answer_of};
 
 use refusals::Checked;
+use words::Word;
 
 // What a walk over chains finds: the first whose chain has a wrong value, or how many entries all chains have.
 #[derive(Drop)]
@@ -17,8 +17,8 @@ pub enum Walk {
 }
 
 // The graph check: refusals 1 to 9 and 14, in the table's order.
-pub fn check(graph: &[u16]) -> Checked
-    ensures { answer_of result ≡ graph_answer edition1 graph.now }
+pub fn check<W: Word>(graph: &[W]) -> Checked
+    ensures { answer_of result ≡ graph_answer W.edition (W.numbers graph.now) }
 {
     if refusals::bad_edition(graph) {
         return Checked::Edition;

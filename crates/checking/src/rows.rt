@@ -2,7 +2,7 @@
 ghost use Rattle.std.specs.Prelude.{◌≡◌, ◌+◌, ◌≤◌, get_or, drop};
 ghost use Rattle.theory.specs.Words.{theory_of};
 ghost use Rattle.theory.specs.Links.{comes_back};
-ghost use Rattle.theory.specs.Accepted.{edition1, leaf_entries, head_entries};
+ghost use Rattle.theory.specs.Accepted.{leaf_entries, head_entries};
 ghost use Rattle.refusals.specs.Passed.{Sized, Linked, Chained};
 ghost use Rattle.refusals.specs.Search.{Clear, First};
 ghost use Rattle.checking.specs.Walked.{Walked};
@@ -11,13 +11,13 @@ ghost use Rattle.refusals.specs.Refusals.{bad_node, bad_producer, leaves_back, h
 
 use crate::Walk;
 use graph::{atoms, first_head, first_leaf, links, links_from, next, nodes, producers, value};
-use refusals::edition::ENTRIES;
 use refusals::{Checked, bad_link, bad_node, bad_producer, first_turn};
+use words::Word;
 
 // Row 14: a chain that is not at its end after K links comes back to one of its own.
-fn comes_back(graph: &[u16], first: usize) -> bool
-    requires { Sized edition1 graph.now × Linked graph.now × (first ≤ get_or graph.now 4 0) }
-    ensures { result ≡ comes_back graph.now first }
+fn comes_back<W: Word>(graph: &[W], first: usize) -> bool
+    requires { Sized W.edition (W.numbers graph.now) × Linked (W.numbers graph.now) × (first ≤ get_or (W.numbers graph.now) 4 0) }
+    ensures { result ≡ comes_back (W.numbers graph.now) first }
 {
     let from = links_from(graph);
     let mut left = links(graph);
@@ -33,9 +33,9 @@ fn comes_back(graph: &[u16], first: usize) -> bool
 }
 
 // The first node whose leaf chain does, or N.
-fn leaves_back(graph: &[u16]) -> usize
-    requires { Sized edition1 graph.now × Linked graph.now }
-    ensures { First (leaves_back graph.now) 0 (get_or graph.now 2 0) result }
+fn leaves_back<W: Word>(graph: &[W]) -> usize
+    requires { Sized W.edition (W.numbers graph.now) × Linked (W.numbers graph.now) }
+    ensures { First (leaves_back (W.numbers graph.now)) 0 (get_or (W.numbers graph.now) 2 0) result }
 {
     let end = nodes(graph);
     let mut n = 0;
@@ -49,9 +49,9 @@ fn leaves_back(graph: &[u16]) -> usize
 }
 
 // The first producer whose head chain does, or P.
-fn heads_back(graph: &[u16]) -> usize
-    requires { Sized edition1 graph.now × Linked graph.now }
-    ensures { First (heads_back graph.now) 0 (get_or graph.now 3 0) result }
+fn heads_back<W: Word>(graph: &[W]) -> usize
+    requires { Sized W.edition (W.numbers graph.now) × Linked (W.numbers graph.now) }
+    ensures { First (heads_back (W.numbers graph.now)) 0 (get_or (W.numbers graph.now) 3 0) result }
 {
     let end = producers(graph);
     let mut p = 0;
@@ -65,10 +65,10 @@ fn heads_back(graph: &[u16]) -> usize
 }
 
 // Row 7: the first node with a leaf that is not below it, or all leaf entries.
-fn walk_leaves(graph: &[u16]) -> Walk
-    requires sized { Sized edition1 graph.now }
-    requires chained { Chained graph.now }
-    ensures { Walked (bad_leaves graph.now) (get_or graph.now 2 0) (leaf_entries (theory_of graph.now)) result }
+fn walk_leaves<W: Word>(graph: &[W]) -> Walk
+    requires sized { Sized W.edition (W.numbers graph.now) }
+    requires chained { Chained (W.numbers graph.now) }
+    ensures { Walked (bad_leaves (W.numbers graph.now)) (get_or (W.numbers graph.now) 2 0) (leaf_entries (theory_of (W.numbers graph.now))) result }
 {
     let end = nodes(graph);
     let from = links_from(graph);
@@ -91,10 +91,10 @@ fn walk_leaves(graph: &[u16]) -> Walk
 }
 
 // Row 8: the first producer with a head that is no atom, or all head entries.
-fn walk_heads(graph: &[u16]) -> Walk
-    requires sized { Sized edition1 graph.now }
-    requires chained { Chained graph.now }
-    ensures { Walked (bad_heads graph.now) (get_or graph.now 3 0) (head_entries (theory_of graph.now)) result }
+fn walk_heads<W: Word>(graph: &[W]) -> Walk
+    requires sized { Sized W.edition (W.numbers graph.now) }
+    requires chained { Chained (W.numbers graph.now) }
+    ensures { Walked (bad_heads (W.numbers graph.now)) (get_or (W.numbers graph.now) 3 0) (head_entries (theory_of (W.numbers graph.now))) result }
 {
     let end = producers(graph);
     let atoms = atoms(graph);
@@ -118,19 +118,19 @@ fn walk_heads(graph: &[u16]) -> Walk
 }
 
 // Rows 8 and 9, with all leaf entries counted.
-fn check_heads(graph: &[u16], leaves: usize) -> Checked
-    requires sized { Sized edition1 graph.now }
-    requires chained { Chained graph.now }
-    requires leaves_value { leaves ≡ leaf_entries (theory_of graph.now) }
-    ensures { answer_of result ≡ first_refusal (drop 9 (graph_rows edition1 graph.now)) }
+fn check_heads<W: Word>(graph: &[W], leaves: usize) -> Checked
+    requires sized { Sized W.edition (W.numbers graph.now) }
+    requires chained { Chained (W.numbers graph.now) }
+    requires leaves_value { leaves ≡ leaf_entries (theory_of (W.numbers graph.now)) }
+    ensures { answer_of result ≡ first_refusal (drop 9 (graph_rows W.edition (W.numbers graph.now))) }
 {
     match walk_heads(graph) {
         Walk::Bad(p) => Checked::Head(p as u32),
         Walk::Total(heads) => {
-            if ENTRIES < leaves {
+            if W::ENTRIES < leaves {
                 return Checked::Entries;
             }
-            if ENTRIES < heads {
+            if W::ENTRIES < heads {
                 return Checked::Entries;
             }
             Checked::Accepted
@@ -139,10 +139,10 @@ fn check_heads(graph: &[u16], leaves: usize) -> Checked
 }
 
 // Rows 7 to 9.
-fn check_leaves(graph: &[u16]) -> Checked
-    requires sized { Sized edition1 graph.now }
-    requires chained { Chained graph.now }
-    ensures { answer_of result ≡ first_refusal (drop 8 (graph_rows edition1 graph.now)) }
+fn check_leaves<W: Word>(graph: &[W]) -> Checked
+    requires sized { Sized W.edition (W.numbers graph.now) }
+    requires chained { Chained (W.numbers graph.now) }
+    ensures { answer_of result ≡ first_refusal (drop 8 (graph_rows W.edition (W.numbers graph.now))) }
 {
     match walk_leaves(graph) {
         Walk::Bad(n) => Checked::Leaf(n as u32),
@@ -151,10 +151,10 @@ fn check_leaves(graph: &[u16]) -> Checked
 }
 
 // Rows 14 and 7 to 9.
-fn check_chains(graph: &[u16]) -> Checked
-    requires sized { Sized edition1 graph.now }
-    requires linked { Linked graph.now }
-    ensures { answer_of result ≡ first_refusal (drop 6 (graph_rows edition1 graph.now)) }
+fn check_chains<W: Word>(graph: &[W]) -> Checked
+    requires sized { Sized W.edition (W.numbers graph.now) }
+    requires linked { Linked (W.numbers graph.now) }
+    ensures { answer_of result ≡ first_refusal (drop 6 (graph_rows W.edition (W.numbers graph.now))) }
 {
     let n = leaves_back(graph);
     if n < nodes(graph) {
@@ -168,10 +168,10 @@ fn check_chains(graph: &[u16]) -> Checked
 }
 
 // Rows 6, 14 and 7 to 9. Where all links lead upward, rows 6 and 14 pass and no chain is followed for 14.
-fn check_links(graph: &[u16]) -> Checked
-    requires sized { Sized edition1 graph.now }
-    requires clear { Clear (bad_node graph.now) 0 (get_or graph.now 2 0) × Clear (bad_producer graph.now) 0 (get_or graph.now 3 0) }
-    ensures { answer_of result ≡ first_refusal (drop 5 (graph_rows edition1 graph.now)) }
+fn check_links<W: Word>(graph: &[W]) -> Checked
+    requires sized { Sized W.edition (W.numbers graph.now) }
+    requires clear { Clear (bad_node (W.numbers graph.now)) 0 (get_or (W.numbers graph.now) 2 0) × Clear (bad_producer (W.numbers graph.now)) 0 (get_or (W.numbers graph.now) 3 0) }
+    ensures { answer_of result ≡ first_refusal (drop 5 (graph_rows W.edition (W.numbers graph.now))) }
 {
     let start = first_turn(graph);
     if links(graph) < start {
@@ -185,9 +185,9 @@ fn check_links(graph: &[u16]) -> Checked
 }
 
 // Rows 4 to 9 and 14.
-pub fn check_records(graph: &[u16]) -> Checked
-    requires { Sized edition1 graph.now }
-    ensures { answer_of result ≡ first_refusal (drop 3 (graph_rows edition1 graph.now)) }
+pub fn check_records<W: Word>(graph: &[W]) -> Checked
+    requires { Sized W.edition (W.numbers graph.now) }
+    ensures { answer_of result ≡ first_refusal (drop 3 (graph_rows W.edition (W.numbers graph.now))) }
 {
     let n = bad_node(graph);
     if n < nodes(graph) {

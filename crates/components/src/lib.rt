@@ -5,7 +5,7 @@
 mod collecting;
 
 ghost use Rattle.std.specs.Prelude.{◌≡◌, ◌+◌, ◌<◌, ◌≤◌, length};
-ghost use Rattle.theory.specs.Accepted.{Accepted, edition1};
+ghost use Rattle.theory.specs.Accepted.{Accepted};
 ghost use Rattle.area.specs.Layout.{Laid, Based};
 ghost use Rattle.components.specs.Classes.{Classifying, Searched, Gathered, Component, flag_member, Sweeping, Classified};
 ghost use Rattle.theory.specs.Words.{theory_of};
@@ -13,16 +13,17 @@ ghost use Rattle.events.specs.Held.{Tables};
 ghost use Rattle.finishing.specs.Finished.{Ready, Marked};
 
 use area::Bases;
+use words::Word;
 
 // The members that are on the queue from `found` on, the root alone at first, and those that their rows lead to.
-fn follow(graph: &[u16], work: &mut [u16], b: Bases, n: usize, found: usize) -> usize
-    requires { Accepted edition1 graph.now × Based graph.now (length work.old) b × Tables (theory_of graph.now) b work.old × Searched 65536 graph.now b work.old work.old n found found (found + 1) }
-    ensures { Searched 65536 graph.now b work.old work.new n found result result }
+fn follow<W: Word>(graph: &[W], work: &mut [W], b: Bases, n: usize, found: usize) -> usize
+    requires { Accepted W.edition (W.numbers graph.now) × Based (W.numbers graph.now) (length (W.numbers work.old)) b × Tables (theory_of (W.numbers graph.now)) b (W.numbers work.old) × Searched W.limit (W.numbers graph.now) b (W.numbers work.old) (W.numbers work.old) n found found (found + 1) }
+    ensures { Searched W.limit (W.numbers graph.now) b (W.numbers work.old) (W.numbers work.new) n found result result }
 {
     let mut head = found;
     let mut tail = found + 1;
     while head < tail {
-        let v = graph::at(work, b.queue + head);
+        let v = words::at(work, b.queue + head);
         tail = collecting::collect_vertex(graph, work, b, v, tail);
         head += 1;
     }
@@ -30,36 +31,36 @@ fn follow(graph: &[u16], work: &mut [u16], b: Bases, n: usize, found: usize) -> 
 }
 
 // The component of the vertex at place n of the finishing order, unless it is met already; its members join the queue.
-fn gather(graph: &[u16], work: &mut [u16], b: Bases, n: usize, found: usize) -> usize
-    requires { Accepted edition1 graph.now × Based graph.now (length work.old) b × Classifying graph.now b work.old (n + 1) found }
-    ensures { Gathered graph.now b work.old work.new n found result }
+fn gather<W: Word>(graph: &[W], work: &mut [W], b: Bases, n: usize, found: usize) -> usize
+    requires { Accepted W.edition (W.numbers graph.now) × Based (W.numbers graph.now) (length (W.numbers work.old)) b × Classifying (W.numbers graph.now) b (W.numbers work.old) (n + 1) found }
+    ensures { Gathered (W.numbers graph.now) b (W.numbers work.old) (W.numbers work.new) n found result }
 {
-    let root = graph::at(work, b.body_nodes + n);
+    let root = words::at(work, b.body_nodes + n);
     let m = b.states + root;
-    if graph::at(work, m) != 2 {
+    if words::at(work, m) != 2 {
         return found;
     }
-    area::put(work, m, 3);
-    area::put(work, b.queue + found, root);
+    words::put(work, m, 3);
+    words::put(work, b.queue + found, root);
     follow(graph, work, b, n, found)
 }
 
 // The flag of a member that is an atom.
-fn flag_member(work: &mut [u16], b: Bases, i: usize)
-    requires { Laid b × (b.end ≤ length work.old) × (i < b.atoms + b.nodes) }
-    ensures { work.new ≡ flag_member b work.old i }
+fn flag_member<W: Word>(work: &mut [W], b: Bases, i: usize)
+    requires { Laid b × (b.end ≤ length (W.numbers work.old)) × (i < b.atoms + b.nodes) }
+    ensures { (W.numbers work.new) ≡ flag_member b (W.numbers work.old) i }
 {
-    let v = graph::at(work, b.queue + i);
+    let v = words::at(work, b.queue + i);
     if v < b.atoms {
-        area::put(work, b.cyclic_atoms + v, 1);
+        words::put(work, b.cyclic_atoms + v, 1);
         return;
     }
 }
 
 // The atoms of a component of two or more are cyclic.
-fn flag(graph: &[u16], work: &mut [u16], b: Bases, n: usize, from: usize, to: usize)
-    requires { Based graph.now (length work.old) b × Component graph.now b work.old n from to }
-    ensures { Sweeping graph.now b work.old work.new n to }
+fn flag<W: Word>(graph: &[W], work: &mut [W], b: Bases, n: usize, from: usize, to: usize)
+    requires { Based (W.numbers graph.now) (length (W.numbers work.old)) b × Component (W.numbers graph.now) b (W.numbers work.old) n from to }
+    ensures { Sweeping (W.numbers graph.now) b (W.numbers work.old) (W.numbers work.new) n to }
 {
     if to <= from + 1 {
         return;
@@ -72,9 +73,9 @@ fn flag(graph: &[u16], work: &mut [u16], b: Bases, n: usize, from: usize, to: us
 }
 
 // Every component, from the vertex finished last on.
-fn classify(graph: &[u16], work: &mut [u16], b: Bases, count: usize)
-    requires { Accepted edition1 graph.now × Based graph.now (length work.old) b × Sweeping graph.now b work.old work.old count 0 }
-    ensures { Classified graph.now b work.old work.new }
+fn classify<W: Word>(graph: &[W], work: &mut [W], b: Bases, count: usize)
+    requires { Accepted W.edition (W.numbers graph.now) × Based (W.numbers graph.now) (length (W.numbers work.old)) b × Sweeping (W.numbers graph.now) b (W.numbers work.old) (W.numbers work.old) count 0 }
+    ensures { Classified (W.numbers graph.now) b (W.numbers work.old) (W.numbers work.new) }
 {
     let mut n = count;
     let mut found: usize = 0;
@@ -87,9 +88,9 @@ fn classify(graph: &[u16], work: &mut [u16], b: Bases, count: usize)
 }
 
 // The cyclic atoms, flagged: both walks.
-pub fn cyclic_atoms(graph: &[u16], work: &mut [u16], b: Bases)
-    requires { Accepted edition1 graph.now × Ready graph.now b work.old × Tables (theory_of graph.now) b work.old × Marked graph.now b 1 work.old }
-    ensures { Classified graph.now b work.old work.new }
+pub fn cyclic_atoms<W: Word>(graph: &[W], work: &mut [W], b: Bases)
+    requires { Accepted W.edition (W.numbers graph.now) × Ready (W.numbers graph.now) b (W.numbers work.old) × Tables (theory_of (W.numbers graph.now)) b (W.numbers work.old) × Marked (W.numbers graph.now) b 1 (W.numbers work.old) }
+    ensures { Classified (W.numbers graph.now) b (W.numbers work.old) (W.numbers work.new) }
 {
     let count = finishing::finish_order(graph, work, b);
     let from = b.cyclic_atoms;

@@ -9,13 +9,14 @@ ghost use Rattle.theory.specs.Founded.{cyclic};
 ghost use Rattle.theory.specs.Words.{chain, theory_of};
 ghost use Rattle.theory.specs.Links.{MeetsOnce};
 ghost use Rattle.theory.specs.Edges.{cone, body_cone};
-ghost use Rattle.theory.specs.Accepted.{Accepted, edition1};
+ghost use Rattle.theory.specs.Accepted.{Accepted};
 ghost use Rattle.theory.specs.Drive.{Follows, Drives};
 ghost use Rattle.area.specs.Layout.{Laid, bases_of, Based};
 ghost use Rattle.cones.specs.Cones.{node_mark, wanted_by, fact_by, Flagged, Found, Kept, Held, body_coned, cyclic_coned};
 ghost use Rattle.cones.specs.Finding.{Searching, Begun};
 
 use area::Bases;
+use words::Word;
 
 // How many nodes a cone has, and how many facts were wanted.
 #[derive(Drop)]
@@ -32,10 +33,10 @@ pub enum Coned {
 }
 
 // Whether a chain of heads has a cyclic one. It is gone along to its end: which head is the first cyclic one cannot be foreseen.
-fn cyclic_head(graph: &[u16], work: &[u16], b: Bases, first: usize) -> bool
-    requires accepted { Accepted edition1 graph.now × Based graph.now (length work.now) b × Flagged (theory_of graph.now) b work.now }
-    requires meets_once { MeetsOnce graph.now first × ((a : ℕ) → Mem a (chain graph.now first) → a < (theory_of graph.now).atoms) }
-    ensures { result ≡ any (cyclic (theory_of graph.now)) (chain graph.now first) }
+fn cyclic_head<W: Word>(graph: &[W], work: &[W], b: Bases, first: usize) -> bool
+    requires accepted { Accepted W.edition (W.numbers graph.now) × Based (W.numbers graph.now) (length (W.numbers work.now)) b × Flagged (theory_of (W.numbers graph.now)) b (W.numbers work.now) }
+    requires meets_once { MeetsOnce (W.numbers graph.now) first × ((a : ℕ) → Mem a (chain (W.numbers graph.now) first) → a < (theory_of (W.numbers graph.now)).atoms) }
+    ensures { result ≡ any (cyclic (theory_of (W.numbers graph.now))) (chain (W.numbers graph.now) first) }
 {
     let from = graph::links_from(graph);
     let mut found = false;
@@ -43,16 +44,16 @@ fn cyclic_head(graph: &[u16], work: &[u16], b: Bases, first: usize) -> bool
     while l > 0 {
         let a = graph::value(graph, from, l);
         l = graph::next(graph, from, l);
-        found = found | (graph::at(work, b.cyclic_atoms + a) == 1);
+        found = found | (words::at(work, b.cyclic_atoms + a) == 1);
     }
     found
 }
 
 // Whether a cone starts from a producer: some head, or some cyclic head.
-fn wanted(graph: &[u16], work: &[u16], b: Bases, cyclic_only: bool, p: usize) -> bool
-    requires accepted { Accepted edition1 graph.now × Based graph.now (length work.now) b × (p < (theory_of graph.now).producers) }
-    requires flagged { cyclic_only ≡ true → Flagged (theory_of graph.now) b work.now }
-    ensures { result ≡ wanted_by (theory_of graph.now) cyclic_only p }
+fn wanted<W: Word>(graph: &[W], work: &[W], b: Bases, cyclic_only: bool, p: usize) -> bool
+    requires accepted { Accepted W.edition (W.numbers graph.now) × Based (W.numbers graph.now) (length (W.numbers work.now)) b × (p < (theory_of (W.numbers graph.now)).producers) }
+    requires flagged { cyclic_only ≡ true → Flagged (theory_of (W.numbers graph.now)) b (W.numbers work.now) }
+    ensures { result ≡ wanted_by (theory_of (W.numbers graph.now)) cyclic_only p }
 {
     let first = graph::first_head(graph, p);
     if cyclic_only {
@@ -62,22 +63,28 @@ fn wanted(graph: &[u16], work: &[u16], b: Bases, cyclic_only: bool, p: usize) ->
 }
 
 // A node is marked, and listed unless it was found already. It is stored behind the list all the same: whether it is new cannot be foreseen either.
-fn include(work: &mut [u16], b: Bases, n: usize, count: usize) -> usize
-    requires { Follows (Searching 65536 b) work.old count (n ∷ []) }
-    ensures { Drives (Searching 65536 b) b.states work.old count (n ∷ []) work.new result [] }
+fn include<W: Word>(work: &mut [W], b: Bases, n: usize, count: usize) -> usize
+    requires { Follows (Searching W.limit b) (W.numbers work.old) count (n ∷ []) }
+    ensures { Drives (Searching W.limit b) b.states (W.numbers work.old) count (n ∷ []) (W.numbers work.new) result [] }
 {
     let mark = b.states + (b.atoms + n);
-    let found = graph::at(work, mark);
-    area::put(work, mark, 1);
-    area::put(work, b.body_nodes + count, n);
+    let found = words::at(work, mark);
+    words::put(work, mark, 1);
+    words::put(work, b.body_nodes + count, n);
     count + 1 - found
 }
 
 // The leaves along a chain.
-fn include_chain(graph: &[u16], work: &mut [u16], b: Bases, first: usize, count: usize) -> usize
-    requires accepted { Accepted edition1 graph.now × MeetsOnce graph.now first }
-    requires follows { Follows (Searching 65536 b) work.old count (chain graph.now first) }
-    ensures { Drives (Searching 65536 b) b.states work.old count (chain graph.now first) work.new result [] }
+fn include_chain<W: Word>(
+    graph: &[W],
+    work: &mut [W],
+    b: Bases,
+    first: usize,
+    count: usize,
+) -> usize
+    requires accepted { Accepted W.edition (W.numbers graph.now) × MeetsOnce (W.numbers graph.now) first }
+    requires follows { Follows (Searching W.limit b) (W.numbers work.old) count (chain (W.numbers graph.now) first) }
+    ensures { Drives (Searching W.limit b) b.states (W.numbers work.old) count (chain (W.numbers graph.now) first) (W.numbers work.new) result [] }
 {
     let from = graph::links_from(graph);
     let mut t = count;
@@ -91,11 +98,18 @@ fn include_chain(graph: &[u16], work: &mut [u16], b: Bases, first: usize, count:
 }
 
 // Producer p: the body of a wanted one is included, and a wanted fact is listed.
-fn begin_at(graph: &[u16], work: &mut [u16], b: Bases, cyclic_only: bool, p: usize, c: Cone) -> Cone
-    requires accepted { Accepted edition1 graph.now × Based graph.now (length work.old) b × (p < (theory_of graph.now).producers) }
-    requires flagged { cyclic_only ≡ true → Flagged (theory_of graph.now) b work.old }
-    requires begun { Begun 65536 (theory_of graph.now) cyclic_only b work.old p c }
-    ensures { Begun 65536 (theory_of graph.now) cyclic_only b work.new (p + 1) result × Kept b work.old work.new }
+fn begin_at<W: Word>(
+    graph: &[W],
+    work: &mut [W],
+    b: Bases,
+    cyclic_only: bool,
+    p: usize,
+    c: Cone,
+) -> Cone
+    requires accepted { Accepted W.edition (W.numbers graph.now) × Based (W.numbers graph.now) (length (W.numbers work.old)) b × (p < (theory_of (W.numbers graph.now)).producers) }
+    requires flagged { cyclic_only ≡ true → Flagged (theory_of (W.numbers graph.now)) b (W.numbers work.old) }
+    requires begun { Begun W.limit (theory_of (W.numbers graph.now)) cyclic_only b (W.numbers work.old) p c }
+    ensures { Begun W.limit (theory_of (W.numbers graph.now)) cyclic_only b (W.numbers work.new) (p + 1) result × Kept b (W.numbers work.old) (W.numbers work.new) }
 {
     if !wanted(graph, work, b, cyclic_only, p) {
         return c;
@@ -107,7 +121,7 @@ fn begin_at(graph: &[u16], work: &mut [u16], b: Bases, cyclic_only: bool, p: usi
         let more = include(work, b, body - 1, nodes);
         return Cone { nodes: more, facts };
     }
-    area::put(work, b.fact_rows + facts, p);
+    words::put(work, b.fact_rows + facts, p);
     Cone {
         nodes,
         facts: facts + 1,
@@ -115,11 +129,11 @@ fn begin_at(graph: &[u16], work: &mut [u16], b: Bases, cyclic_only: bool, p: usi
 }
 
 // Every producer in turn; no node is marked yet.
-fn begin(graph: &[u16], work: &mut [u16], b: Bases, cyclic_only: bool) -> Cone
-    requires accepted { Accepted edition1 graph.now × Based graph.now (length work.old) b }
-    requires flagged { cyclic_only ≡ true → Flagged (theory_of graph.now) b work.old }
-    requires begun { Begun 65536 (theory_of graph.now) cyclic_only b work.old 0 (record { nodes = 0; facts = 0 }) }
-    ensures { Begun 65536 (theory_of graph.now) cyclic_only b work.new (theory_of graph.now).producers result × Kept b work.old work.new }
+fn begin<W: Word>(graph: &[W], work: &mut [W], b: Bases, cyclic_only: bool) -> Cone
+    requires accepted { Accepted W.edition (W.numbers graph.now) × Based (W.numbers graph.now) (length (W.numbers work.old)) b }
+    requires flagged { cyclic_only ≡ true → Flagged (theory_of (W.numbers graph.now)) b (W.numbers work.old) }
+    requires begun { Begun W.limit (theory_of (W.numbers graph.now)) cyclic_only b (W.numbers work.old) 0 (record { nodes = 0; facts = 0 }) }
+    ensures { Begun W.limit (theory_of (W.numbers graph.now)) cyclic_only b (W.numbers work.new) (theory_of (W.numbers graph.now)).producers result × Kept b (W.numbers work.old) (W.numbers work.new) }
 {
     let mut c = Cone { nodes: 0, facts: 0 };
     let mut p: usize = 0;
@@ -131,9 +145,9 @@ fn begin(graph: &[u16], work: &mut [u16], b: Bases, cyclic_only: bool) -> Cone
 }
 
 // No node is in the cone. The marks of atoms are not read here.
-fn clear_marks(work: &mut [u16], b: Bases)
-    requires { Laid b × (b.end ≤ length work.old) }
-    ensures { Kept b work.old work.new × ((n : ℕ) → n < b.nodes → node_mark b work.new n ≡ 0) }
+fn clear_marks<W: Word>(work: &mut [W], b: Bases)
+    requires { Laid b × (b.end ≤ length (W.numbers work.old)) }
+    ensures { Kept b (W.numbers work.old) (W.numbers work.new) × ((n : ℕ) → n < b.nodes → node_mark b (W.numbers work.new) n ≡ 0) }
 {
     let from = b.states + b.atoms;
     let to = from + b.nodes;
@@ -141,10 +155,10 @@ fn clear_marks(work: &mut [u16], b: Bases)
 }
 
 // The cone: first the bodies, then the leaves of each node of the list in turn. In an accepted graph only And and Or have leaves.
-fn find_in(graph: &[u16], work: &mut [u16], b: Bases, cyclic_only: bool) -> Cone
-    requires accepted { Accepted edition1 graph.now × Based graph.now (length work.old) b }
-    requires flagged { cyclic_only ≡ true → Flagged (theory_of graph.now) b work.old }
-    ensures { Held (theory_of graph.now) (cone (theory_of graph.now) (wanted_by (theory_of graph.now) cyclic_only)) (fact_by (theory_of graph.now) cyclic_only) b work.new result × Kept b work.old work.new }
+fn find_in<W: Word>(graph: &[W], work: &mut [W], b: Bases, cyclic_only: bool) -> Cone
+    requires accepted { Accepted W.edition (W.numbers graph.now) × Based (W.numbers graph.now) (length (W.numbers work.old)) b }
+    requires flagged { cyclic_only ≡ true → Flagged (theory_of (W.numbers graph.now)) b (W.numbers work.old) }
+    ensures { Held (theory_of (W.numbers graph.now)) (cone (theory_of (W.numbers graph.now)) (wanted_by (theory_of (W.numbers graph.now)) cyclic_only)) (fact_by (theory_of (W.numbers graph.now)) cyclic_only) b (W.numbers work.new) result × Kept b (W.numbers work.old) (W.numbers work.new) }
 {
     clear_marks(work, b);
     let c = begin(graph, work, b, cyclic_only);
@@ -152,7 +166,7 @@ fn find_in(graph: &[u16], work: &mut [u16], b: Bases, cyclic_only: bool) -> Cone
     let mut nodes = bodies;
     let mut next: usize = 0;
     while next < nodes {
-        let n = graph::at(work, b.body_nodes + next);
+        let n = words::at(work, b.body_nodes + next);
         nodes = include_chain(graph, work, b, graph::first_leaf(graph, n), nodes);
         next += 1;
     }
@@ -163,32 +177,32 @@ fn find_in(graph: &[u16], work: &mut [u16], b: Bases, cyclic_only: bool) -> Cone
 }
 
 // The same, with the bases worked out here (`area::bases_of` says why).
-fn find(graph: &[u16], work: &mut [u16], cyclic_only: bool) -> Cone
-    requires accepted { Accepted edition1 graph.now × Based graph.now (length work.old) (bases_of graph.now (length work.old)) }
-    requires flagged { cyclic_only ≡ true → Flagged (theory_of graph.now) (bases_of graph.now (length work.old)) work.old }
-    ensures { Held (theory_of graph.now) (cone (theory_of graph.now) (wanted_by (theory_of graph.now) cyclic_only)) (fact_by (theory_of graph.now) cyclic_only) (bases_of graph.now (length work.old)) work.new result × Kept (bases_of graph.now (length work.old)) work.old work.new }
+fn find<W: Word>(graph: &[W], work: &mut [W], cyclic_only: bool) -> Cone
+    requires accepted { Accepted W.edition (W.numbers graph.now) × Based (W.numbers graph.now) (length (W.numbers work.old)) (bases_of (W.numbers graph.now) (length (W.numbers work.old))) }
+    requires flagged { cyclic_only ≡ true → Flagged (theory_of (W.numbers graph.now)) (bases_of (W.numbers graph.now) (length (W.numbers work.old))) (W.numbers work.old) }
+    ensures { Held (theory_of (W.numbers graph.now)) (cone (theory_of (W.numbers graph.now)) (wanted_by (theory_of (W.numbers graph.now)) cyclic_only)) (fact_by (theory_of (W.numbers graph.now)) cyclic_only) (bases_of (W.numbers graph.now) (length (W.numbers work.old))) (W.numbers work.new) result × Kept (bases_of (W.numbers graph.now) (length (W.numbers work.old))) (W.numbers work.old) (W.numbers work.new) }
 {
     let words = work.len();
     find_in(graph, work, area::bases_of(graph, words), cyclic_only)
 }
 
 // Whether a node is absorbed and in the body cone.
-fn refused_at(graph: &[u16], work: &[u16], b: Bases, count: usize, n: usize) -> bool
-    requires accepted { Accepted edition1 graph.now × Based graph.now (length work.now) b × (n < (theory_of graph.now).nodes) }
-    requires found { Found (theory_of graph.now) (body_cone (theory_of graph.now)) b work.now count }
-    ensures { result ≡ body_cone (theory_of graph.now) n && absorbed ((theory_of graph.now).kind n) }
+fn refused_at<W: Word>(graph: &[W], work: &[W], b: Bases, count: usize, n: usize) -> bool
+    requires accepted { Accepted W.edition (W.numbers graph.now) × Based (W.numbers graph.now) (length (W.numbers work.now)) b × (n < (theory_of (W.numbers graph.now)).nodes) }
+    requires found { Found (theory_of (W.numbers graph.now)) (body_cone (theory_of (W.numbers graph.now))) b (W.numbers work.now) count }
+    ensures { result ≡ body_cone (theory_of (W.numbers graph.now)) n && absorbed ((theory_of (W.numbers graph.now)).kind n) }
 {
-    if graph::at(work, b.states + (b.atoms + n)) == 0 {
+    if words::at(work, b.states + (b.atoms + n)) == 0 {
         return false;
     }
     graph::kind(graph, n) == 7
 }
 
 // The lowest absorbed node of the body cone, if there is one (refusal 12).
-fn refuse(graph: &[u16], work: &[u16], b: Bases, count: usize) -> Coned
-    requires accepted { Accepted edition1 graph.now × Based graph.now (length work.now) b }
-    requires found { Found (theory_of graph.now) (body_cone (theory_of graph.now)) b work.now count }
-    ensures { body_coned (theory_of graph.now) b work.now result }
+fn refuse<W: Word>(graph: &[W], work: &[W], b: Bases, count: usize) -> Coned
+    requires accepted { Accepted W.edition (W.numbers graph.now) × Based (W.numbers graph.now) (length (W.numbers work.now)) b }
+    requires found { Found (theory_of (W.numbers graph.now)) (body_cone (theory_of (W.numbers graph.now))) b (W.numbers work.now) count }
+    ensures { body_coned (theory_of (W.numbers graph.now)) b (W.numbers work.now) result }
 {
     let mut n: usize = 0;
     while n < b.nodes {
@@ -201,18 +215,18 @@ fn refuse(graph: &[u16], work: &[u16], b: Bases, count: usize) -> Coned
 }
 
 // The body cone (document 01: the first cone).
-pub fn body_cone(graph: &[u16], work: &mut [u16], b: Bases) -> Coned
-    requires { Accepted edition1 graph.now × Based graph.now (length work.old) b }
-    ensures { Kept b work.old work.new × body_coned (theory_of graph.now) b work.new result }
+pub fn body_cone<W: Word>(graph: &[W], work: &mut [W], b: Bases) -> Coned
+    requires { Accepted W.edition (W.numbers graph.now) × Based (W.numbers graph.now) (length (W.numbers work.old)) b }
+    ensures { Kept b (W.numbers work.old) (W.numbers work.new) × body_coned (theory_of (W.numbers graph.now)) b (W.numbers work.new) result }
 {
     let c = find(graph, work, false);
     refuse(graph, work, b, c.nodes)
 }
 
 // The cyclic cone (document 01: the second cone).
-pub fn cyclic_cone(graph: &[u16], work: &mut [u16], b: Bases) -> Cone
-    requires { Accepted edition1 graph.now × Based graph.now (length work.old) b × Flagged (theory_of graph.now) b work.old }
-    ensures { Kept b work.old work.new × cyclic_coned (theory_of graph.now) b work.new result }
+pub fn cyclic_cone<W: Word>(graph: &[W], work: &mut [W], b: Bases) -> Cone
+    requires { Accepted W.edition (W.numbers graph.now) × Based (W.numbers graph.now) (length (W.numbers work.old)) b × Flagged (theory_of (W.numbers graph.now)) b (W.numbers work.old) }
+    ensures { Kept b (W.numbers work.old) (W.numbers work.new) × cyclic_coned (theory_of (W.numbers graph.now)) b (W.numbers work.new) result }
 {
     find(graph, work, true)
 }

@@ -3,19 +3,21 @@
 
 ghost use Rattle.std.specs.Prelude.{◌≡◌, ◌+◌, ◌<◌, length, get_or, set};
 
-pub fn get(counts: &[u16], i: usize) -> usize
-    requires { i < length counts.now }
-    ensures { result ≡ get_or counts.now i 0 }
+use words::Word;
+
+pub fn get<W: Word>(counts: &[W], i: usize) -> usize
+    requires { i < length (W.numbers counts.now) }
+    ensures { result ≡ get_or (W.numbers counts.now) i 0 }
 {
-    graph::at(counts, i)
+    words::at(counts, i)
 }
 
 // The count before.
-pub fn add(counts: &mut [u16], i: usize, amount: usize) -> usize
-    requires { (i < length counts.old) × (get_or counts.old i 0 + amount < 65536) }
-    ensures { (result ≡ get_or counts.old i 0) × (counts.new ≡ set counts.old i (result + amount)) }
+pub fn add<W: Word>(counts: &mut [W], i: usize, amount: usize) -> usize
+    requires { (i < length (W.numbers counts.old)) × (get_or (W.numbers counts.old) i 0 + amount < W.limit) }
+    ensures { (result ≡ get_or (W.numbers counts.old) i 0) × ((W.numbers counts.new) ≡ set (W.numbers counts.old) i (result + amount)) }
 {
     let n = get(counts, i);
-    area::put(counts, i, n + amount);
+    words::put(counts, i, n + amount);
     n
 }

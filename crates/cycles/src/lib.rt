@@ -6,7 +6,7 @@ ghost use Rattle.std.specs.Prelude.{◌≡◌, true, ◌↔◌, [], ◌+◌, ◌
 ghost use Rattle.theory.specs.Sets.{everyone};
 ghost use Rattle.theory.specs.Words.{theory_of};
 ghost use Rattle.theory.specs.Edges.{preds};
-ghost use Rattle.theory.specs.Accepted.{Accepted, edition1};
+ghost use Rattle.theory.specs.Accepted.{Accepted};
 ghost use Rattle.theory.specs.Founded.{has_cycle};
 ghost use Rattle.area.specs.Layout.{Laid, Roomy, Based};
 ghost use Rattle.cycles.specs.Held.{Started, Counting, Looked};
@@ -14,12 +14,14 @@ ghost use Rattle.cycles.specs.Outcome.{loops, outcome_of, outcome, work_after, C
 
 use adjacency::Table;
 use area::Bases;
+use area::length::Area;
 use refusals::Checked;
+use words::Word;
 
 // How many edges lead to node n: one from its operand, or one from each leaf.
-fn degree(graph: &[u16], n: usize) -> usize
-    requires { Accepted edition1 graph.now × (n < (theory_of graph.now).nodes) }
-    ensures { result ≡ length (preds (theory_of graph.now) everyone ((theory_of graph.now).atoms + n)) }
+fn degree<W: Word>(graph: &[W], n: usize) -> usize
+    requires { Accepted W.edition (W.numbers graph.now) × (n < (theory_of (W.numbers graph.now)).nodes) }
+    ensures { result ≡ length (preds (theory_of (W.numbers graph.now)) everyone ((theory_of (W.numbers graph.now)).atoms + n)) }
 {
     if graph::kind(graph, n) == 1 {
         return 1;
@@ -28,21 +30,21 @@ fn degree(graph: &[u16], n: usize) -> usize
 }
 
 // How many entries each node waits for.
-fn count_nodes(graph: &[u16], work: &mut [u16], b: Bases)
-    requires { Accepted edition1 graph.now × Started 65536 (theory_of graph.now) b work.old 0 }
-    ensures { Started 65536 (theory_of graph.now) b work.new b.nodes }
+fn count_nodes<W: Word>(graph: &[W], work: &mut [W], b: Bases)
+    requires { Accepted W.edition (W.numbers graph.now) × Started W.limit (theory_of (W.numbers graph.now)) b (W.numbers work.old) 0 }
+    ensures { Started W.limit (theory_of (W.numbers graph.now)) b (W.numbers work.new) b.nodes }
 {
     let mut n: usize = 0;
     while n < b.nodes {
-        area::put(work, b.dependencies + (b.atoms + n), degree(graph, n));
+        words::put(work, b.dependencies + (b.atoms + n), degree(graph, n));
         n += 1;
     }
 }
 
 // The heads of producer p, one more for each; a fact has no edge to them.
-fn count_heads(graph: &[u16], work: &mut [u16], b: Bases, p: usize)
-    requires { Accepted edition1 graph.now × (p < (theory_of graph.now).producers) × Counting 65536 (theory_of graph.now) b work.old p [] }
-    ensures { Counting 65536 (theory_of graph.now) b work.new (p + 1) [] }
+fn count_heads<W: Word>(graph: &[W], work: &mut [W], b: Bases, p: usize)
+    requires { Accepted W.edition (W.numbers graph.now) × (p < (theory_of (W.numbers graph.now)).producers) × Counting W.limit (theory_of (W.numbers graph.now)) b (W.numbers work.old) p [] }
+    ensures { Counting W.limit (theory_of (W.numbers graph.now)) b (W.numbers work.new) (p + 1) [] }
 {
     if graph::body(graph, p) == 0 {
         return;
@@ -57,9 +59,9 @@ fn count_heads(graph: &[u16], work: &mut [u16], b: Bases, p: usize)
 }
 
 // How many entries each vertex waits for.
-fn count_all(graph: &[u16], work: &mut [u16], b: Bases)
-    requires { Accepted edition1 graph.now × Started 65536 (theory_of graph.now) b work.old 0 }
-    ensures { Counting 65536 (theory_of graph.now) b work.new (theory_of graph.now).producers [] }
+fn count_all<W: Word>(graph: &[W], work: &mut [W], b: Bases)
+    requires { Accepted W.edition (W.numbers graph.now) × Started W.limit (theory_of (W.numbers graph.now)) b (W.numbers work.old) 0 }
+    ensures { Counting W.limit (theory_of (W.numbers graph.now)) b (W.numbers work.new) (theory_of (W.numbers graph.now)).producers [] }
 {
     count_nodes(graph, work, b);
     let end = graph::producers(graph);
@@ -71,15 +73,15 @@ fn count_all(graph: &[u16], work: &mut [u16], b: Bases)
 }
 
 // The vertices that wait for nothing, put on the queue.
-fn look_all(work: &mut [u16], b: Bases) -> usize
-    requires { Laid b × (b.end ≤ length work.old) × (b.atoms + b.nodes < 65536) }
-    ensures { Looked b work.old work.new (b.atoms + b.nodes) result }
+fn look_all<W: Word>(work: &mut [W], b: Bases) -> usize
+    requires { Laid b × (b.end ≤ length (W.numbers work.old)) × (b.atoms + b.nodes < W.limit) }
+    ensures { Looked b (W.numbers work.old) (W.numbers work.new) (b.atoms + b.nodes) result }
 {
     let mut tail: usize = 0;
     let mut v: usize = 0;
     while v < b.atoms + b.nodes {
         if counters::get(work, b.dependencies + v) == 0 {
-            area::put(work, b.queue + tail, v);
+            words::put(work, b.queue + tail, v);
             tail += 1;
         }
         v += 1;
@@ -88,9 +90,9 @@ fn look_all(work: &mut [u16], b: Bases) -> usize
 }
 
 // The tables that are read, and a count of zero for each atom.
-fn set_up(graph: &[u16], work: &mut [u16], b: Bases)
-    requires { Accepted edition1 graph.now × Based graph.now (length work.old) b }
-    ensures { Started 65536 (theory_of graph.now) b work.new 0 }
+fn set_up<W: Word>(graph: &[W], work: &mut [W], b: Bases)
+    requires { Accepted W.edition (W.numbers graph.now) × Based (W.numbers graph.now) (length (W.numbers work.old)) b }
+    ensures { Started W.limit (theory_of (W.numbers graph.now)) b (W.numbers work.new) 0 }
 {
     adjacency::build_in(graph, work, b, Table::AtomNodes);
     adjacency::build_in(graph, work, b, Table::Parents);
@@ -101,9 +103,9 @@ fn set_up(graph: &[u16], work: &mut [u16], b: Bases)
 }
 
 // Whether a closed walk keeps some vertex from being released.
-fn cyclic(graph: &[u16], work: &mut [u16]) -> bool
-    requires { Accepted edition1 graph.now × Roomy graph.now (length work.old) }
-    ensures { result ≡ has_cycle (theory_of graph.now) }
+fn cyclic<W: Word>(graph: &[W], work: &mut [W]) -> bool
+    requires { Accepted W.edition (W.numbers graph.now) × Roomy (W.numbers graph.now) (length (W.numbers work.old)) }
+    ensures { result ≡ has_cycle (theory_of (W.numbers graph.now)) }
 {
     let words = work.len();
     let b = area::bases_of(graph, words);
@@ -132,16 +134,16 @@ fn reply(yes: bool) -> Need
 }
 
 // Refusals 1 to 9, then 11, then whether there is a closed walk.
-pub fn needed(graph: &[u16], work: &mut [u16]) -> Need
-    ensures result_value { outcome_of result ≡ outcome edition1 graph.now work.old }
-    ensures work_after { work.new ≡ work_after edition1 graph.now work.old }
-    ensures variant { (yes : _) → outcome_of result ≡ loops yes → (yes ≡ true) ↔ ClosedWalk (theory_of graph.now) }
+pub fn needed<W: Area>(graph: &[W], work: &mut [W]) -> Need
+    ensures result_value { outcome_of result ≡ outcome W.edition (W.numbers graph.now) (W.numbers work.old) }
+    ensures work_after { (W.numbers work.new) ≡ work_after W.edition (W.numbers graph.now) (W.numbers work.old) }
+    ensures variant { (yes : _) → outcome_of result ≡ loops yes → (yes ≡ true) ↔ ClosedWalk (theory_of (W.numbers graph.now)) }
 {
     let checked = checking::check(graph);
     let Checked::Accepted = checked else {
         return Need::Refused(checked);
     };
-    if work.len() != area::length::words(graph) {
+    if work.len() != W::area_words(graph) {
         return Need::Work;
     }
     let yes = cyclic(graph, work);

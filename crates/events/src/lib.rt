@@ -4,7 +4,7 @@
 ghost use Rattle.std.specs.Prelude.{[], ◌∷◌, ℕ, ◌+◌, ◌<◌, ◌≤◌, length, get_or};
 ghost use Rattle.std.proofs.Math.Seq.{slice};
 ghost use Rattle.theory.specs.Words.{theory_of};
-ghost use Rattle.theory.specs.Accepted.{Accepted, edition1};
+ghost use Rattle.theory.specs.Accepted.{Accepted};
 ghost use Rattle.theory.specs.Rows.{flat_map, succs};
 ghost use Rattle.theory.specs.Drive.{Follows, Drives};
 ghost use Rattle.area.specs.Layout.{bases_of, Based};
@@ -15,43 +15,44 @@ ghost use Rattle.events.specs.Run.{Running, Ran};
 ghost use Rattle.theory.specs.Closure.{Mode};
 
 use area::Bases;
+use words::Word;
 
 // One thing fewer that v waits for, and no branch on whether it waits at all; after the last one v is found, and goes on the queue.
-fn settle(work: &mut [u16], b: Bases, v: usize, tail: usize) -> usize
-    requires { Follows (Held 65536 b) work.old tail (v ∷ []) }
-    ensures { Drives (Held 65536 b) b.states work.old tail (v ∷ []) work.new result [] }
+fn settle<W: Word>(work: &mut [W], b: Bases, v: usize, tail: usize) -> usize
+    requires { Follows (Held W.limit b) (W.numbers work.old) tail (v ∷ []) }
+    ensures { Drives (Held W.limit b) b.states (W.numbers work.old) tail (v ∷ []) (W.numbers work.new) result [] }
 {
-    let n = graph::at(work, b.dependencies + v);
+    let n = words::at(work, b.dependencies + v);
     if n != 1 {
         let one = (n > 0) as usize;
-        area::put(work, b.dependencies + v, n - one);
+        words::put(work, b.dependencies + v, n - one);
         return tail;
     }
-    area::put(work, b.dependencies + v, 0);
-    area::put(work, b.queue + tail, v);
+    words::put(work, b.dependencies + v, 0);
+    words::put(work, b.queue + tail, v);
     tail + 1
 }
 
 // The nodes that stand in the tables from one place to another.
-fn visit_nodes(work: &mut [u16], b: Bases, from: usize, to: usize, tail: usize) -> usize
+fn visit_nodes<W: Word>(work: &mut [W], b: Bases, from: usize, to: usize, tail: usize) -> usize
     requires from_le_to { (from ≤ to) × (to ≤ b.states) }
-    requires follows { Follows (Held 65536 b) work.old tail (as_vertices b (slice from to work.old)) }
-    ensures { Drives (Held 65536 b) b.states work.old tail (as_vertices b (slice from to work.old)) work.new result [] }
+    requires follows { Follows (Held W.limit b) (W.numbers work.old) tail (as_vertices b (slice from to (W.numbers work.old))) }
+    ensures { Drives (Held W.limit b) b.states (W.numbers work.old) tail (as_vertices b (slice from to (W.numbers work.old))) (W.numbers work.new) result [] }
 {
     let mut t = tail;
     let mut i = from;
     while i < to {
-        t = settle(work, b, b.atoms + graph::at(work, i), t);
+        t = settle(work, b, b.atoms + words::at(work, i), t);
         i += 1;
     }
     t
 }
 
 // The heads of a producer.
-fn visit_heads(graph: &[u16], work: &mut [u16], b: Bases, p: usize, tail: usize) -> usize
-    requires accepted { Accepted edition1 graph.now × (p < get_or graph.now 3 0) }
-    requires follows { Follows (Held 65536 b) work.old tail ((theory_of graph.now).heads p) }
-    ensures { Drives (Held 65536 b) b.states work.old tail ((theory_of graph.now).heads p) work.new result [] }
+fn visit_heads<W: Word>(graph: &[W], work: &mut [W], b: Bases, p: usize, tail: usize) -> usize
+    requires accepted { Accepted W.edition (W.numbers graph.now) × (p < get_or (W.numbers graph.now) 3 0) }
+    requires follows { Follows (Held W.limit b) (W.numbers work.old) tail ((theory_of (W.numbers graph.now)).heads p) }
+    ensures { Drives (Held W.limit b) b.states (W.numbers work.old) tail ((theory_of (W.numbers graph.now)).heads p) (W.numbers work.new) result [] }
 {
     let from = graph::links_from(graph);
     let mut t = tail;
@@ -65,31 +66,38 @@ fn visit_heads(graph: &[u16], work: &mut [u16], b: Bases, p: usize, tail: usize)
 }
 
 // The heads of the producers that stand in the tables from one place to another.
-fn visit_producers(
-    graph: &[u16],
-    work: &mut [u16],
+fn visit_producers<W: Word>(
+    graph: &[W],
+    work: &mut [W],
     b: Bases,
     from: usize,
     to: usize,
     tail: usize,
 ) -> usize
-    requires accepted { Accepted edition1 graph.now × (from ≤ to) × (to ≤ b.states) × Named graph.now work.old from to }
-    requires follows { Follows (Held 65536 b) work.old tail (flat_map (theory_of graph.now).heads (slice from to work.old)) }
-    ensures { Drives (Held 65536 b) b.states work.old tail (flat_map (theory_of graph.now).heads (slice from to work.old)) work.new result [] }
+    requires accepted { Accepted W.edition (W.numbers graph.now) × (from ≤ to) × (to ≤ b.states) × Named (W.numbers graph.now) (W.numbers work.old) from to }
+    requires follows { Follows (Held W.limit b) (W.numbers work.old) tail (flat_map (theory_of (W.numbers graph.now)).heads (slice from to (W.numbers work.old))) }
+    ensures { Drives (Held W.limit b) b.states (W.numbers work.old) tail (flat_map (theory_of (W.numbers graph.now)).heads (slice from to (W.numbers work.old))) (W.numbers work.new) result [] }
 {
     let mut t = tail;
     let mut i = from;
     while i < to {
-        t = visit_heads(graph, work, b, graph::at(work, i), t);
+        t = visit_heads(graph, work, b, words::at(work, i), t);
         i += 1;
     }
     t
 }
 
-fn visit_row(work: &mut [u16], b: Bases, base: usize, rows: usize, r: usize, tail: usize) -> usize
-    requires spanned { Spanned b.states work.old base rows r }
-    requires follows { Follows (Held 65536 b) work.old tail (as_vertices b (row_at work.old base rows r)) }
-    ensures { Drives (Held 65536 b) b.states work.old tail (as_vertices b (row_at work.old base rows r)) work.new result [] }
+fn visit_row<W: Word>(
+    work: &mut [W],
+    b: Bases,
+    base: usize,
+    rows: usize,
+    r: usize,
+    tail: usize,
+) -> usize
+    requires spanned { Spanned b.states (W.numbers work.old) base rows r }
+    requires follows { Follows (Held W.limit b) (W.numbers work.old) tail (as_vertices b (row_at (W.numbers work.old) base rows r)) }
+    ensures { Drives (Held W.limit b) b.states (W.numbers work.old) tail (as_vertices b (row_at (W.numbers work.old) base rows r)) (W.numbers work.new) result [] }
 {
     let from = adjacency::row_start(work, base, rows, r);
     let to = adjacency::row_start(work, base, rows, r + 1);
@@ -97,11 +105,11 @@ fn visit_row(work: &mut [u16], b: Bases, base: usize, rows: usize, r: usize, tai
 }
 
 // The heads of the producers whose body is node m.
-fn visit_body(graph: &[u16], work: &mut [u16], b: Bases, m: usize, tail: usize) -> usize
-    requires accepted { Accepted edition1 graph.now × Spanned b.states work.old b.by_body b.nodes m }
-    requires named { Named graph.now work.old (start_at work.old b.by_body b.nodes m) (start_at work.old b.by_body b.nodes (m + 1)) }
-    requires follows { Follows (Held 65536 b) work.old tail (flat_map (theory_of graph.now).heads (row_at work.old b.by_body b.nodes m)) }
-    ensures { Drives (Held 65536 b) b.states work.old tail (flat_map (theory_of graph.now).heads (row_at work.old b.by_body b.nodes m)) work.new result [] }
+fn visit_body<W: Word>(graph: &[W], work: &mut [W], b: Bases, m: usize, tail: usize) -> usize
+    requires accepted { Accepted W.edition (W.numbers graph.now) × Spanned b.states (W.numbers work.old) b.by_body b.nodes m }
+    requires named { Named (W.numbers graph.now) (W.numbers work.old) (start_at (W.numbers work.old) b.by_body b.nodes m) (start_at (W.numbers work.old) b.by_body b.nodes (m + 1)) }
+    requires follows { Follows (Held W.limit b) (W.numbers work.old) tail (flat_map (theory_of (W.numbers graph.now)).heads (row_at (W.numbers work.old) b.by_body b.nodes m)) }
+    ensures { Drives (Held W.limit b) b.states (W.numbers work.old) tail (flat_map (theory_of (W.numbers graph.now)).heads (row_at (W.numbers work.old) b.by_body b.nodes m)) (W.numbers work.new) result [] }
 {
     let from = adjacency::row_start(work, b.by_body, b.nodes, m);
     let to = adjacency::row_start(work, b.by_body, b.nodes, m + 1);
@@ -109,10 +117,10 @@ fn visit_body(graph: &[u16], work: &mut [u16], b: Bases, m: usize, tail: usize) 
 }
 
 // Every entry of the row of vertex v.
-fn visit_vertex(graph: &[u16], work: &mut [u16], b: Bases, v: usize, tail: usize) -> usize
-    requires accepted { Accepted edition1 graph.now × Based graph.now (length work.old) b × (v < b.atoms + b.nodes) × Tables (theory_of graph.now) b work.old }
-    requires follows { Follows (Held 65536 b) work.old tail (succs (theory_of graph.now) v) }
-    ensures { Drives (Held 65536 b) b.states work.old tail (succs (theory_of graph.now) v) work.new result [] }
+fn visit_vertex<W: Word>(graph: &[W], work: &mut [W], b: Bases, v: usize, tail: usize) -> usize
+    requires accepted { Accepted W.edition (W.numbers graph.now) × Based (W.numbers graph.now) (length (W.numbers work.old)) b × (v < b.atoms + b.nodes) × Tables (theory_of (W.numbers graph.now)) b (W.numbers work.old) }
+    requires follows { Follows (Held W.limit b) (W.numbers work.old) tail (succs (theory_of (W.numbers graph.now)) v) }
+    ensures { Drives (Held W.limit b) b.states (W.numbers work.old) tail (succs (theory_of (W.numbers graph.now)) v) (W.numbers work.new) result [] }
 {
     if v < b.atoms {
         return visit_row(work, b, b.atom_nodes, b.atoms, v, tail);
@@ -123,15 +131,15 @@ fn visit_vertex(graph: &[u16], work: &mut [u16], b: Bases, v: usize, tail: usize
 }
 
 // Every vertex on the queue, in turn: the rows of those that are found on the way too.
-fn settle_in(graph: &[u16], work: &mut [u16], b: Bases, first: usize) -> usize
-    requires accepted { Accepted edition1 graph.now × Based graph.now (length work.old) b × Tables (theory_of graph.now) b work.old }
-    requires by_index { (mode : ℕ → Mode) × Running 65536 graph.now b mode work.old 0 first }
-    ensures { Ran 65536 graph.now b work.old work.new 0 first result result }
+fn settle_in<W: Word>(graph: &[W], work: &mut [W], b: Bases, first: usize) -> usize
+    requires accepted { Accepted W.edition (W.numbers graph.now) × Based (W.numbers graph.now) (length (W.numbers work.old)) b × Tables (theory_of (W.numbers graph.now)) b (W.numbers work.old) }
+    requires by_index { (mode : ℕ → Mode) × Running W.limit (W.numbers graph.now) b mode (W.numbers work.old) 0 first }
+    ensures { Ran W.limit (W.numbers graph.now) b (W.numbers work.old) (W.numbers work.new) 0 first result result }
 {
     let mut head: usize = 0;
     let mut tail = first;
     while head < tail {
-        let v = graph::at(work, b.queue + head);
+        let v = words::at(work, b.queue + head);
         tail = visit_vertex(graph, work, b, v, tail);
         head += 1;
     }
@@ -139,10 +147,10 @@ fn settle_in(graph: &[u16], work: &mut [u16], b: Bases, first: usize) -> usize
 }
 
 // The same, with the bases worked out here (`area::bases_of` says why).
-pub fn settle_all(graph: &[u16], work: &mut [u16], first: usize) -> usize
-    requires accepted { Accepted edition1 graph.now × Based graph.now (length work.old) (bases_of graph.now (length work.old)) × Tables (theory_of graph.now) (bases_of graph.now (length work.old)) work.old }
-    requires by_index { (mode : ℕ → Mode) × Running 65536 graph.now (bases_of graph.now (length work.old)) mode work.old 0 first }
-    ensures { Ran 65536 graph.now (bases_of graph.now (length work.old)) work.old work.new 0 first result result }
+pub fn settle_all<W: Word>(graph: &[W], work: &mut [W], first: usize) -> usize
+    requires accepted { Accepted W.edition (W.numbers graph.now) × Based (W.numbers graph.now) (length (W.numbers work.old)) (bases_of (W.numbers graph.now) (length (W.numbers work.old))) × Tables (theory_of (W.numbers graph.now)) (bases_of (W.numbers graph.now) (length (W.numbers work.old))) (W.numbers work.old) }
+    requires by_index { (mode : ℕ → Mode) × Running W.limit (W.numbers graph.now) (bases_of (W.numbers graph.now) (length (W.numbers work.old))) mode (W.numbers work.old) 0 first }
+    ensures { Ran W.limit (W.numbers graph.now) (bases_of (W.numbers graph.now) (length (W.numbers work.old))) (W.numbers work.old) (W.numbers work.new) 0 first result result }
 {
     let words = work.len();
     settle_in(graph, work, area::bases_of(graph, words), first)

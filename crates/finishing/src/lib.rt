@@ -5,7 +5,7 @@
 ghost use Rattle.std.specs.Prelude.{◌≡◌, ◌≢◌, true, false, ℕ, ◌+◌, ◌-◌, ◌<◌, ◌≤◌, eqb, length, get_or, set};
 ghost use Rattle.theory.specs.Words.{theory_of};
 ghost use Rattle.theory.specs.Edges.{vertices};
-ghost use Rattle.theory.specs.Accepted.{Accepted, edition1};
+ghost use Rattle.theory.specs.Accepted.{Accepted};
 ghost use Rattle.area.specs.Layout.{Laid};
 ghost use Rattle.area.specs.Views.{mark_in};
 ghost use Rattle.finishing.specs.Cursors.{has_operand, first_of};
@@ -13,6 +13,7 @@ ghost use Rattle.finishing.specs.Finished.{Ready, Marked, Finished};
 ghost use Rattle.finishing.specs.Walking.{Walking, OnTop, Found, Meeting, discovered, Onward, Stepped, Entered, Descended};
 
 use area::Bases;
+use words::Word;
 
 // What a look finds: a vertex that is still to be met, or nothing more.
 #[derive(Drop)]
@@ -29,9 +30,9 @@ pub struct Tops {
 }
 
 // The cursor of a vertex before any of its entries is looked at.
-fn first_entry(graph: &[u16], b: Bases, v: usize) -> usize
-    requires { Accepted edition1 graph.now × (v < vertices (theory_of graph.now)) × (b.atoms ≡ (theory_of graph.now).atoms) }
-    ensures { result ≡ first_of graph.now v }
+fn first_entry<W: Word>(graph: &[W], b: Bases, v: usize) -> usize
+    requires { Accepted W.edition (W.numbers graph.now) × (v < vertices (theory_of (W.numbers graph.now))) × (b.atoms ≡ (theory_of (W.numbers graph.now)).atoms) }
+    ensures { result ≡ first_of (W.numbers graph.now) v }
 {
     if v < b.atoms {
         return 0;
@@ -44,75 +45,75 @@ fn first_entry(graph: &[u16], b: Bases, v: usize) -> usize
 }
 
 // Whether vertex v is still to be met.
-fn is_new(work: &[u16], b: Bases, v: usize) -> bool
-    requires { Laid b × (v < b.atoms + b.nodes) × (b.end ≤ length work.now) }
-    ensures { result ≡ eqb (mark_in b work.now v) 1 }
+fn is_new<W: Word>(work: &[W], b: Bases, v: usize) -> bool
+    requires { Laid b × (v < b.atoms + b.nodes) × (b.end ≤ length (W.numbers work.now)) }
+    ensures { result ≡ eqb (mark_in b (W.numbers work.now) v) 1 }
 {
-    graph::at(work, b.states + v) == 1
+    words::at(work, b.states + v) == 1
 }
 
 // A vertex that is still to be met is marked, its cursor is set to its first entry, and it goes on the stack, above `top` others.
-fn meet(graph: &[u16], work: &mut [u16], b: Bases, v: usize, top: usize)
-    requires { Accepted edition1 graph.now × Meeting graph.now b work.old v top }
-    ensures { work.new ≡ discovered graph.now b work.old v top }
+fn meet<W: Word>(graph: &[W], work: &mut [W], b: Bases, v: usize, top: usize)
+    requires { Accepted W.edition (W.numbers graph.now) × Meeting (W.numbers graph.now) b (W.numbers work.old) v top }
+    ensures { (W.numbers work.new) ≡ discovered (W.numbers graph.now) b (W.numbers work.old) v top }
 {
-    area::put(work, b.states + v, 2);
-    area::put(work, b.dependencies + v, first_entry(graph, b, v));
-    area::put(work, b.queue + top, v);
+    words::put(work, b.states + v, 2);
+    words::put(work, b.dependencies + v, first_entry(graph, b, v));
+    words::put(work, b.queue + top, v);
 }
 
 // The body, still to be met, of the next producer with head a that has one.
-fn look_atom(graph: &[u16], work: &mut [u16], b: Bases, a: usize) -> Entry
-    requires { Accepted edition1 graph.now × ((top : ℕ) × (done : ℕ) × OnTop graph.now b work.old a top done) × (a < b.atoms) }
-    ensures { Found graph.now b work.old work.new a result }
+fn look_atom<W: Word>(graph: &[W], work: &mut [W], b: Bases, a: usize) -> Entry
+    requires { Accepted W.edition (W.numbers graph.now) × ((top : ℕ) × (done : ℕ) × OnTop (W.numbers graph.now) b (W.numbers work.old) a top done) × (a < b.atoms) }
+    ensures { Found (W.numbers graph.now) b (W.numbers work.old) (W.numbers work.new) a result }
 {
     let place = b.dependencies + a;
     let start = adjacency::row_start(work, b.by_head, b.atoms, a);
     let end = adjacency::row_start(work, b.by_head, b.atoms, a + 1);
-    let mut cursor = graph::at(work, place);
+    let mut cursor = words::at(work, place);
     while start + cursor < end {
-        let body = graph::body(graph, graph::at(work, start + cursor));
+        let body = graph::body(graph, words::at(work, start + cursor));
         cursor += 1;
         if body > 0 {
             if is_new(work, b, b.atoms + (body - 1)) {
-                area::put(work, place, cursor);
+                words::put(work, place, cursor);
                 return Entry::Vertex(b.atoms + (body - 1));
             }
         }
     }
-    area::put(work, place, cursor);
+    words::put(work, place, cursor);
     Entry::Done
 }
 
 // The next leaf of a node that is still to be met.
-fn look_leaf(graph: &[u16], work: &mut [u16], b: Bases, v: usize) -> Entry
-    requires { Accepted edition1 graph.now × ((top : ℕ) × (done : ℕ) × OnTop graph.now b work.old v top done) × (b.atoms ≤ v) × (has_operand graph.now (v - b.atoms) ≡ false) }
-    ensures { Found graph.now b work.old work.new v result }
+fn look_leaf<W: Word>(graph: &[W], work: &mut [W], b: Bases, v: usize) -> Entry
+    requires { Accepted W.edition (W.numbers graph.now) × ((top : ℕ) × (done : ℕ) × OnTop (W.numbers graph.now) b (W.numbers work.old) v top done) × (b.atoms ≤ v) × (has_operand (W.numbers graph.now) (v - b.atoms) ≡ false) }
+    ensures { Found (W.numbers graph.now) b (W.numbers work.old) (W.numbers work.new) v result }
 {
     let from = graph::links_from(graph);
     let place = b.dependencies + v;
-    let mut cursor = graph::at(work, place);
+    let mut cursor = words::at(work, place);
     while cursor > 0 {
         let leaf = graph::value(graph, from, cursor);
         cursor = graph::next(graph, from, cursor);
         if is_new(work, b, b.atoms + leaf) {
-            area::put(work, place, cursor);
+            words::put(work, place, cursor);
             return Entry::Vertex(b.atoms + leaf);
         }
     }
-    area::put(work, place, 0);
+    words::put(work, place, 0);
     Entry::Done
 }
 
 // The operand of a node, which has not been looked at, unless it has been met.
-fn take_operand(graph: &[u16], work: &mut [u16], b: Bases, v: usize) -> Entry
-    requires accepted { Accepted edition1 graph.now × ((top : ℕ) × (done : ℕ) × OnTop graph.now b work.old v top done) × (b.atoms ≤ v) × (has_operand graph.now (v - b.atoms) ≡ true) }
-    requires v_nonzero { get_or work.old (b.dependencies + v) 0 ≢ 0 }
-    ensures { Found graph.now b work.old work.new v result }
+fn take_operand<W: Word>(graph: &[W], work: &mut [W], b: Bases, v: usize) -> Entry
+    requires accepted { Accepted W.edition (W.numbers graph.now) × ((top : ℕ) × (done : ℕ) × OnTop (W.numbers graph.now) b (W.numbers work.old) v top done) × (b.atoms ≤ v) × (has_operand (W.numbers graph.now) (v - b.atoms) ≡ true) }
+    requires v_nonzero { get_or (W.numbers work.old) (b.dependencies + v) 0 ≢ 0 }
+    ensures { Found (W.numbers graph.now) b (W.numbers work.old) (W.numbers work.new) v result }
 {
     let operand = graph::operand(graph, v - b.atoms);
     let new = is_new(work, b, operand);
-    area::put(work, b.dependencies + v, 0);
+    words::put(work, b.dependencies + v, 0);
     if new {
         return Entry::Vertex(operand);
     }
@@ -120,20 +121,20 @@ fn take_operand(graph: &[u16], work: &mut [u16], b: Bases, v: usize) -> Entry
 }
 
 // The operand of a node, unless it has been looked at or met.
-fn look_operand(graph: &[u16], work: &mut [u16], b: Bases, v: usize) -> Entry
-    requires { Accepted edition1 graph.now × ((top : ℕ) × (done : ℕ) × OnTop graph.now b work.old v top done) × (b.atoms ≤ v) × (has_operand graph.now (v - b.atoms) ≡ true) }
-    ensures { Found graph.now b work.old work.new v result }
+fn look_operand<W: Word>(graph: &[W], work: &mut [W], b: Bases, v: usize) -> Entry
+    requires { Accepted W.edition (W.numbers graph.now) × ((top : ℕ) × (done : ℕ) × OnTop (W.numbers graph.now) b (W.numbers work.old) v top done) × (b.atoms ≤ v) × (has_operand (W.numbers graph.now) (v - b.atoms) ≡ true) }
+    ensures { Found (W.numbers graph.now) b (W.numbers work.old) (W.numbers work.new) v result }
 {
-    if graph::at(work, b.dependencies + v) == 0 {
+    if words::at(work, b.dependencies + v) == 0 {
         return Entry::Done;
     }
     take_operand(graph, work, b, v)
 }
 
 // The next entry of a vertex that leads to one still to be met; the cursor goes past it.
-fn look(graph: &[u16], work: &mut [u16], b: Bases, v: usize) -> Entry
-    requires { Accepted edition1 graph.now × ((top : ℕ) × (done : ℕ) × OnTop graph.now b work.old v top done) }
-    ensures { Found graph.now b work.old work.new v result }
+fn look<W: Word>(graph: &[W], work: &mut [W], b: Bases, v: usize) -> Entry
+    requires { Accepted W.edition (W.numbers graph.now) × ((top : ℕ) × (done : ℕ) × OnTop (W.numbers graph.now) b (W.numbers work.old) v top done) }
+    ensures { Found (W.numbers graph.now) b (W.numbers work.old) (W.numbers work.new) v result }
 {
     if v < b.atoms {
         return look_atom(graph, work, b, v);
@@ -145,11 +146,11 @@ fn look(graph: &[u16], work: &mut [u16], b: Bases, v: usize) -> Entry
 }
 
 // The top of the stack, v, is finished.
-fn finish(work: &mut [u16], b: Bases, v: usize, top: usize, done: usize) -> Tops
-    requires { (b.body_nodes + done < length work.old) × (v < 65536) × (0 < top) }
-    ensures { (work.new ≡ set work.old (b.body_nodes + done) v) × (result.top ≡ top - 1) × (result.done ≡ done + 1) }
+fn finish<W: Word>(work: &mut [W], b: Bases, v: usize, top: usize, done: usize) -> Tops
+    requires { (b.body_nodes + done < length (W.numbers work.old)) × (v < W.limit) × (0 < top) }
+    ensures { ((W.numbers work.new) ≡ set (W.numbers work.old) (b.body_nodes + done) v) × (result.top ≡ top - 1) × (result.done ≡ done + 1) }
 {
-    area::put(work, b.body_nodes + done, v);
+    words::put(work, b.body_nodes + done, v);
     Tops {
         top: top - 1,
         done: done + 1,
@@ -157,9 +158,16 @@ fn finish(work: &mut [u16], b: Bases, v: usize, top: usize, done: usize) -> Tops
 }
 
 // On from v, which was just met and is on top: if v takes an operand, that is met too, or v is finished if the operand was met before.
-fn through(graph: &[u16], work: &mut [u16], b: Bases, v: usize, top: usize, done: usize) -> Tops
-    requires { Accepted edition1 graph.now × OnTop graph.now b work.old v top done × (get_or work.old (b.dependencies + v) 0 ≡ first_of graph.now v) }
-    ensures { Onward graph.now b work.old work.new result.top result.done done }
+fn through<W: Word>(
+    graph: &[W],
+    work: &mut [W],
+    b: Bases,
+    v: usize,
+    top: usize,
+    done: usize,
+) -> Tops
+    requires { Accepted W.edition (W.numbers graph.now) × OnTop (W.numbers graph.now) b (W.numbers work.old) v top done × (get_or (W.numbers work.old) (b.dependencies + v) 0 ≡ first_of (W.numbers graph.now) v) }
+    ensures { Onward (W.numbers graph.now) b (W.numbers work.old) (W.numbers work.new) result.top result.done done }
 {
     if v < b.atoms {
         return Tops { top, done };
@@ -178,11 +186,11 @@ fn through(graph: &[u16], work: &mut [u16], b: Bases, v: usize, top: usize, done
 }
 
 // One step: the next vertex that the top leads to is met, and the walk goes on through it; a top with nothing left is finished.
-fn step(graph: &[u16], work: &mut [u16], b: Bases, top: usize, done: usize) -> Tops
-    requires { Accepted edition1 graph.now × Walking graph.now b work.old top done × (0 < top) }
-    ensures { Stepped graph.now b work.old work.new result.top result.done done }
+fn step<W: Word>(graph: &[W], work: &mut [W], b: Bases, top: usize, done: usize) -> Tops
+    requires { Accepted W.edition (W.numbers graph.now) × Walking (W.numbers graph.now) b (W.numbers work.old) top done × (0 < top) }
+    ensures { Stepped (W.numbers graph.now) b (W.numbers work.old) (W.numbers work.new) result.top result.done done }
 {
-    let v = graph::at(work, b.queue + (top - 1));
+    let v = words::at(work, b.queue + (top - 1));
     let entry = look(graph, work, b, v);
     match entry {
         Entry::Done => finish(work, b, v, top, done),
@@ -194,9 +202,9 @@ fn step(graph: &[u16], work: &mut [u16], b: Bases, top: usize, done: usize) -> T
 }
 
 // A root is met, if it is still to be met; answers how many are on the stack.
-fn enter(graph: &[u16], work: &mut [u16], b: Bases, root: usize) -> usize
-    requires { Accepted edition1 graph.now × Ready graph.now b work.old × (root < vertices (theory_of graph.now)) }
-    ensures { Entered graph.now b work.old work.new root result }
+fn enter<W: Word>(graph: &[W], work: &mut [W], b: Bases, root: usize) -> usize
+    requires { Accepted W.edition (W.numbers graph.now) × Ready (W.numbers graph.now) b (W.numbers work.old) × (root < vertices (theory_of (W.numbers graph.now))) }
+    ensures { Entered (W.numbers graph.now) b (W.numbers work.old) (W.numbers work.new) root result }
 {
     if is_new(work, b, root) {
         meet(graph, work, b, root, 0);
@@ -206,9 +214,9 @@ fn enter(graph: &[u16], work: &mut [u16], b: Bases, root: usize) -> usize
 }
 
 // The walk from one root, if it is still to be met.
-fn descend(graph: &[u16], work: &mut [u16], b: Bases, root: usize, done: usize) -> usize
-    requires { Accepted edition1 graph.now × Walking graph.now b work.old 0 done × (root < vertices (theory_of graph.now)) }
-    ensures { Descended graph.now b work.old work.new root result }
+fn descend<W: Word>(graph: &[W], work: &mut [W], b: Bases, root: usize, done: usize) -> usize
+    requires { Accepted W.edition (W.numbers graph.now) × Walking (W.numbers graph.now) b (W.numbers work.old) 0 done × (root < vertices (theory_of (W.numbers graph.now))) }
+    ensures { Descended (W.numbers graph.now) b (W.numbers work.old) (W.numbers work.new) root result }
 {
     let mut top = enter(graph, work, b, root);
     let mut n = done;
@@ -221,9 +229,9 @@ fn descend(graph: &[u16], work: &mut [u16], b: Bases, root: usize, done: usize) 
 }
 
 // The vertices of preparation in a finishing order, from `body_nodes` on; answers how many they are.
-pub fn finish_order(graph: &[u16], work: &mut [u16], b: Bases) -> usize
-    requires { Accepted edition1 graph.now × Ready graph.now b work.old × Marked graph.now b 1 work.old }
-    ensures { Finished graph.now b work.old work.new result }
+pub fn finish_order<W: Word>(graph: &[W], work: &mut [W], b: Bases) -> usize
+    requires { Accepted W.edition (W.numbers graph.now) × Ready (W.numbers graph.now) b (W.numbers work.old) × Marked (W.numbers graph.now) b 1 (W.numbers work.old) }
+    ensures { Finished (W.numbers graph.now) b (W.numbers work.old) (W.numbers work.new) result }
 {
     let mut done: usize = 0;
     let mut root: usize = 0;

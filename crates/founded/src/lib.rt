@@ -3,14 +3,16 @@
 
 ghost use Rattle.std.specs.Prelude.{◌≡◌, false, ◌+◌, ◌≤◌, eqb, length, get_or, replicate};
 ghost use Rattle.theory.specs.Words.{theory_of};
-ghost use Rattle.theory.specs.Accepted.{edition1, area_of};
+ghost use Rattle.theory.specs.Accepted.{area_of};
 ghost use Rattle.mask.specs.Mask.{words_of, pack};
 ghost use Rattle.refusals.specs.Answer.{accept};
 ghost use Rattle.refusals.specs.Refusals.{graph_answer};
 ghost use Rattle.founded.specs.Answers.{bad_mask, bad_lengths, Prepares, Completes};
 
+use area::length::Area;
 use preparation::Marks;
 use refusals::Checked;
+use words::Word;
 
 // What each call answers. specs/Answers has the number and place of each.
 #[derive(Clone, Copy)]
@@ -39,10 +41,10 @@ fn bad_mask(count: usize, words: usize) -> bool
 }
 
 // Writes the set that the flags from `from` on stand for, and clears the words.
-fn hand_out(words: &mut [u16], from: usize, atoms: usize, output: &mut [u64])
-    requires { (from + atoms ≤ length words.old) × (length output.old ≡ words_of atoms) }
-    ensures output_after { output.new ≡ pack atoms (λ a. eqb (get_or words.old (from + a) 0) 1) }
-    ensures words_after { words.new ≡ replicate (length words.old) 0 }
+fn hand_out<W: Word>(words: &mut [W], from: usize, atoms: usize, output: &mut [u64])
+    requires { (from + atoms ≤ length (W.numbers words.old)) × (length output.old ≡ words_of atoms) }
+    ensures output_after { output.new ≡ pack atoms (λ a. eqb (get_or (W.numbers words.old) (from + a) 0) 1) }
+    ensures words_after { (W.numbers words.new) ≡ replicate (length (W.numbers words.old)) 0 }
 {
     let to = from + atoms;
     mask::pack_flags(&words[from..to], output);
@@ -50,9 +52,9 @@ fn hand_out(words: &mut [u16], from: usize, atoms: usize, output: &mut [u64])
 }
 
 // Preparation after refusals 1 to 11.
-fn prepare_accepted(graph: &[u16], output: &mut [u64], work: &mut [u16]) -> Prepared
-    requires { (graph_answer edition1 graph.now ≡ accept) × (bad_mask (get_or graph.now 1 0) (length output.old) ≡ false) × (length work.old ≡ area_of edition1 (theory_of graph.now)) }
-    ensures { Prepares edition1 graph.now output.old work.old output.new work.new result }
+fn prepare_accepted<W: Area>(graph: &[W], output: &mut [u64], work: &mut [W]) -> Prepared
+    requires { (graph_answer W.edition (W.numbers graph.now) ≡ accept) × (bad_mask (get_or (W.numbers graph.now) 1 0) (length output.old) ≡ false) × (length (W.numbers work.old) ≡ area_of W.edition (theory_of (W.numbers graph.now))) }
+    ensures { Prepares W.edition (W.numbers graph.now) output.old (W.numbers work.old) output.new (W.numbers work.new) result }
 {
     let words = work.len();
     let b = area::bases_of(graph, words);
@@ -70,8 +72,8 @@ fn prepare_accepted(graph: &[u16], output: &mut [u64], work: &mut [u16]) -> Prep
 }
 
 // Preparation: the cyclic atoms.
-pub fn prepare(graph: &[u16], output: &mut [u64], work: &mut [u16]) -> Prepared
-    ensures { Prepares edition1 graph.now output.old work.old output.new work.new result }
+pub fn prepare<W: Area>(graph: &[W], output: &mut [u64], work: &mut [W]) -> Prepared
+    ensures { Prepares W.edition (W.numbers graph.now) output.old (W.numbers work.old) output.new (W.numbers work.new) result }
 {
     let checked = checking::check(graph);
     let Checked::Accepted = checked else {
@@ -80,16 +82,16 @@ pub fn prepare(graph: &[u16], output: &mut [u64], work: &mut [u16]) -> Prepared
     if bad_mask(graph::atoms(graph), output.len()) {
         return Prepared::Output;
     }
-    if work.len() != area::length::words(graph) {
+    if work.len() != W::area_words(graph) {
         return Prepared::Work;
     }
     prepare_accepted(graph, output, work)
 }
 
 // Refusal 10 of the pass.
-fn bad_lengths(graph: &[u16], never: usize, atom_never: usize, output: usize) -> bool
-    requires { 5 ≤ length graph.now }
-    ensures { result ≡ bad_lengths graph.now never atom_never output }
+fn bad_lengths<W: Word>(graph: &[W], never: usize, atom_never: usize, output: usize) -> bool
+    requires { 5 ≤ length (W.numbers graph.now) }
+    ensures { result ≡ bad_lengths (W.numbers graph.now) never atom_never output }
 {
     let atoms = graph::atoms(graph);
     if bad_mask(graph::nodes(graph), never) {
@@ -102,15 +104,15 @@ fn bad_lengths(graph: &[u16], never: usize, atom_never: usize, output: usize) ->
 }
 
 // The pass after refusals 1 to 11.
-fn complete_accepted(
-    graph: &[u16],
+fn complete_accepted<W: Area>(
+    graph: &[W],
     never: &[u64],
     atom_never: &[u64],
     output: &mut [u64],
-    work: &mut [u16],
+    work: &mut [W],
 ) -> Completed
-    requires { (graph_answer edition1 graph.now ≡ accept) × (bad_lengths graph.now (length never.now) (length atom_never.now) (length output.old) ≡ false) × (length work.old ≡ area_of edition1 (theory_of graph.now)) }
-    ensures { Completes edition1 graph.now never.now atom_never.now output.old work.old output.new work.new result }
+    requires { (graph_answer W.edition (W.numbers graph.now) ≡ accept) × (bad_lengths (W.numbers graph.now) (length never.now) (length atom_never.now) (length output.old) ≡ false) × (length (W.numbers work.old) ≡ area_of W.edition (theory_of (W.numbers graph.now))) }
+    ensures { Completes W.edition (W.numbers graph.now) never.now atom_never.now output.old (W.numbers work.old) output.new (W.numbers work.new) result }
 {
     let words = work.len();
     let b = area::bases_of(graph, words);
@@ -128,14 +130,14 @@ fn complete_accepted(
 }
 
 // The pass: the missing atoms.
-pub fn complete(
-    graph: &[u16],
+pub fn complete<W: Area>(
+    graph: &[W],
     never: &[u64],
     atom_never: &[u64],
     output: &mut [u64],
-    work: &mut [u16],
+    work: &mut [W],
 ) -> Completed
-    ensures { Completes edition1 graph.now never.now atom_never.now output.old work.old output.new work.new result }
+    ensures { Completes W.edition (W.numbers graph.now) never.now atom_never.now output.old (W.numbers work.old) output.new (W.numbers work.new) result }
 {
     let checked = checking::check(graph);
     let Checked::Accepted = checked else {
@@ -144,7 +146,7 @@ pub fn complete(
     if bad_lengths(graph, never.len(), atom_never.len(), output.len()) {
         return Completed::Lengths;
     }
-    if work.len() != area::length::words(graph) {
+    if work.len() != W::area_words(graph) {
         return Completed::Work;
     }
     complete_accepted(graph, never, atom_never, output, work)

@@ -8,7 +8,7 @@ ghost use Rattle.theory.specs.Theory.{Atom};
 ghost use Rattle.theory.specs.Founded.{cyclic, cyclic_cone};
 ghost use Rattle.theory.specs.Words.{bit_at, theory_of};
 ghost use Rattle.theory.specs.Rows.{flat_map};
-ghost use Rattle.theory.specs.Accepted.{Accepted, edition1};
+ghost use Rattle.theory.specs.Accepted.{Accepted};
 ghost use Rattle.theory.specs.Drive.{Follows, Drives};
 ghost use Rattle.theory.specs.Pass.{kind_mode};
 ghost use Rattle.theory.specs.Starting.{first_count};
@@ -18,6 +18,7 @@ ghost use Rattle.initialization.specs.Regions.{cone_nodes, fact_rows, Flagged, C
 ghost use Rattle.initialization.specs.Start.{initial_of, initial_at, Filled, At, AtNodes};
 
 use area::Bases;
+use words::Word;
 
 // A node's start state.
 #[derive(Drop)]
@@ -28,14 +29,14 @@ pub enum Initial {
 }
 
 // What vertex v waits for before the facts and the nodes are looked at.
-fn first_count(atom_never: &[u64], work: &[u16], b: Bases, v: usize) -> usize
-    requires { Laid b × (b.end ≤ length work.now) }
-    ensures { ((s : Set) → Flagged b work.now s → result ≡ first_count s (bit_at atom_never.now) v) × (result ≤ 1) }
+fn first_count<W: Word>(atom_never: &[u64], work: &[W], b: Bases, v: usize) -> usize
+    requires { Laid b × (b.end ≤ length (W.numbers work.now)) }
+    ensures { ((s : Set) → Flagged b (W.numbers work.now) s → result ≡ first_count s (bit_at atom_never.now) v) × (result ≤ 1) }
 {
     if b.atoms <= v {
         return 0;
     }
-    if graph::at(work, b.cyclic_atoms + v) == 0 {
+    if words::at(work, b.cyclic_atoms + v) == 0 {
         return 0;
     }
     if mask::bit(atom_never, v) {
@@ -44,44 +45,44 @@ fn first_count(atom_never: &[u64], work: &[u16], b: Bases, v: usize) -> usize
     1
 }
 
-fn first_counts(atom_never: &[u64], work: &mut [u16], b: Bases)
-    requires { Laid b × (b.end ≤ length work.old) }
-    ensures { Filled b (bit_at atom_never.now) work.old work.new (b.atoms + b.nodes) }
+fn first_counts<W: Word>(atom_never: &[u64], work: &mut [W], b: Bases)
+    requires { Laid b × (b.end ≤ length (W.numbers work.old)) }
+    ensures { Filled b (bit_at atom_never.now) (W.numbers work.old) (W.numbers work.new) (b.atoms + b.nodes) }
 {
     let mut v: usize = 0;
     while v < b.atoms + b.nodes {
         let count = first_count(atom_never, work, b, v);
-        area::put(work, b.dependencies + v, count);
+        words::put(work, b.dependencies + v, count);
         v += 1;
     }
 }
 
 // Vertex v is found.
-fn push(work: &mut [u16], b: Bases, v: usize, tail: usize) -> usize
-    requires { (b.queue + tail < length work.old) × (v < 65536) }
-    ensures { (work.new ≡ set work.old (b.queue + tail) v) × (result ≡ tail + 1) }
+fn push<W: Word>(work: &mut [W], b: Bases, v: usize, tail: usize) -> usize
+    requires { (b.queue + tail < length (W.numbers work.old)) × (v < W.limit) }
+    ensures { ((W.numbers work.new) ≡ set (W.numbers work.old) (b.queue + tail) v) × (result ≡ tail + 1) }
 {
-    area::put(work, b.queue + tail, v);
+    words::put(work, b.queue + tail, v);
     tail + 1
 }
 
 // A head of a fact: found if it waits.
-fn activate_atom(work: &mut [u16], b: Bases, a: usize, tail: usize) -> usize
-    requires { (b.atoms + b.nodes ≤ 65536) × Follows (At b) work.old tail (a ∷ []) }
-    ensures { Drives (At b) b.dependencies work.old tail (a ∷ []) work.new result [] }
+fn activate_atom<W: Word>(work: &mut [W], b: Bases, a: usize, tail: usize) -> usize
+    requires { (b.atoms + b.nodes ≤ W.limit) × Follows (At b) (W.numbers work.old) tail (a ∷ []) }
+    ensures { Drives (At b) b.dependencies (W.numbers work.old) tail (a ∷ []) (W.numbers work.new) result [] }
 {
-    if graph::at(work, b.dependencies + a) == 0 {
+    if words::at(work, b.dependencies + a) == 0 {
         return tail;
     }
-    area::put(work, b.dependencies + a, 0);
+    words::put(work, b.dependencies + a, 0);
     push(work, b, a, tail)
 }
 
 // The heads of a fact.
-fn activate_heads(graph: &[u16], work: &mut [u16], b: Bases, p: usize, tail: usize) -> usize
-    requires accepted { Accepted edition1 graph.now × Based graph.now (length work.old) b × (p < (theory_of graph.now).producers) }
-    requires follows { Follows (At b) work.old tail ((theory_of graph.now).heads p) }
-    ensures { Drives (At b) b.dependencies work.old tail ((theory_of graph.now).heads p) work.new result [] }
+fn activate_heads<W: Word>(graph: &[W], work: &mut [W], b: Bases, p: usize, tail: usize) -> usize
+    requires accepted { Accepted W.edition (W.numbers graph.now) × Based (W.numbers graph.now) (length (W.numbers work.old)) b × (p < (theory_of (W.numbers graph.now)).producers) }
+    requires follows { Follows (At b) (W.numbers work.old) tail ((theory_of (W.numbers graph.now)).heads p) }
+    ensures { Drives (At b) b.dependencies (W.numbers work.old) tail ((theory_of (W.numbers graph.now)).heads p) (W.numbers work.new) result [] }
 {
     let from = graph::links_from(graph);
     let mut t = tail;
@@ -95,16 +96,16 @@ fn activate_heads(graph: &[u16], work: &mut [u16], b: Bases, p: usize, tail: usi
 }
 
 // The facts that have a cyclic head.
-fn activate_facts(graph: &[u16], work: &mut [u16], b: Bases, facts: usize) -> usize
-    requires accepted { Accepted edition1 graph.now × Based graph.now (length work.old) b × (facts ≤ b.producers) × FactsListed graph.now (fact_rows b work.old facts) }
-    requires follows { Follows (At b) work.old 0 (flat_map (theory_of graph.now).heads (fact_rows b work.old facts)) }
-    ensures { Drives (At b) b.dependencies work.old 0 (flat_map (theory_of graph.now).heads (fact_rows b work.old facts)) work.new result [] }
+fn activate_facts<W: Word>(graph: &[W], work: &mut [W], b: Bases, facts: usize) -> usize
+    requires accepted { Accepted W.edition (W.numbers graph.now) × Based (W.numbers graph.now) (length (W.numbers work.old)) b × (facts ≤ b.producers) × FactsListed (W.numbers graph.now) (fact_rows b (W.numbers work.old) facts) }
+    requires follows { Follows (At b) (W.numbers work.old) 0 (flat_map (theory_of (W.numbers graph.now)).heads (fact_rows b (W.numbers work.old) facts)) }
+    ensures { Drives (At b) b.dependencies (W.numbers work.old) 0 (flat_map (theory_of (W.numbers graph.now)).heads (fact_rows b (W.numbers work.old) facts)) (W.numbers work.new) result [] }
 {
     let mut t: usize = 0;
     let mut i = facts;
     while i > 0 {
         i -= 1;
-        t = activate_heads(graph, work, b, graph::at(work, b.fact_rows + i), t);
+        t = activate_heads(graph, work, b, words::at(work, b.fact_rows + i), t);
     }
     t
 }
@@ -120,28 +121,28 @@ fn boundary(atom_never: &[u64], a: usize) -> Initial
 }
 
 // An uncut Atom: that of a cyclic atom waits for it.
-fn read_atom(atom_never: &[u64], work: &[u16], b: Bases, a: usize) -> Initial
-    requires { Laid b × (b.end ≤ length work.now) × (a < b.atoms) }
-    ensures { (s : Set) (n : ℕ) → Flagged b work.now s → result ≡ initial_of (kind_mode Atom (s a) (bit_at atom_never.now a)) n }
+fn read_atom<W: Word>(atom_never: &[u64], work: &[W], b: Bases, a: usize) -> Initial
+    requires { Laid b × (b.end ≤ length (W.numbers work.now)) × (a < b.atoms) }
+    ensures { (s : Set) (n : ℕ) → Flagged b (W.numbers work.now) s → result ≡ initial_of (kind_mode Atom (s a) (bit_at atom_never.now a)) n }
 {
-    if graph::at(work, b.cyclic_atoms + a) == 0 {
+    if words::at(work, b.cyclic_atoms + a) == 0 {
         return boundary(atom_never, a);
     }
     Initial::Awaiting(1)
 }
 
 // The start state of a node of the cone, by the kind table.
-fn read(
-    graph: &[u16],
+fn read<W: Word>(
+    graph: &[W],
     never: &[u64],
     atom_never: &[u64],
-    work: &[u16],
+    work: &[W],
     b: Bases,
     n: usize,
 ) -> Initial
-    requires accepted { Accepted edition1 graph.now × Based graph.now (length work.now) b × Flagged b work.now (cyclic (theory_of graph.now)) }
-    requires is { Is (cyclic_cone (theory_of graph.now) n) }
-    ensures { result ≡ initial_at graph.now (bit_at never.now) (bit_at atom_never.now) n }
+    requires accepted { Accepted W.edition (W.numbers graph.now) × Based (W.numbers graph.now) (length (W.numbers work.now)) b × Flagged b (W.numbers work.now) (cyclic (theory_of (W.numbers graph.now))) }
+    requires is { Is (cyclic_cone (theory_of (W.numbers graph.now)) n) }
+    ensures { result ≡ initial_at (W.numbers graph.now) (bit_at never.now) (bit_at atom_never.now) n }
 {
     if mask::bit(never, n) {
         return Initial::Inactive;
@@ -163,19 +164,19 @@ fn read(
 }
 
 // A node of the cone: its count, or its place on the queue if it waits for nothing.
-fn start_node(
-    graph: &[u16],
+fn start_node<W: Word>(
+    graph: &[W],
     never: &[u64],
     atom_never: &[u64],
-    work: &mut [u16],
+    work: &mut [W],
     b: Bases,
     n: usize,
     tail: usize,
 ) -> usize
-    requires accepted { Accepted edition1 graph.now × Based graph.now (length work.old) b × Flagged b work.old (cyclic (theory_of graph.now)) }
-    requires is { Is (cyclic_cone (theory_of graph.now) n) }
-    requires follows { Follows (AtNodes graph.now (bit_at never.now) (bit_at atom_never.now) b) work.old tail ((b.atoms + n) ∷ []) }
-    ensures { Drives (AtNodes graph.now (bit_at never.now) (bit_at atom_never.now) b) b.dependencies work.old tail ((b.atoms + n) ∷ []) work.new result [] }
+    requires accepted { Accepted W.edition (W.numbers graph.now) × Based (W.numbers graph.now) (length (W.numbers work.old)) b × Flagged b (W.numbers work.old) (cyclic (theory_of (W.numbers graph.now))) }
+    requires is { Is (cyclic_cone (theory_of (W.numbers graph.now)) n) }
+    requires follows { Follows (AtNodes (W.numbers graph.now) (bit_at never.now) (bit_at atom_never.now) b) (W.numbers work.old) tail ((b.atoms + n) ∷ []) }
+    ensures { Drives (AtNodes (W.numbers graph.now) (bit_at never.now) (bit_at atom_never.now) b) b.dependencies (W.numbers work.old) tail ((b.atoms + n) ∷ []) (W.numbers work.new) result [] }
 {
     let initial = read(graph, never, atom_never, work, b, n);
     match initial {
@@ -184,7 +185,7 @@ fn start_node(
             if count == 0 {
                 return push(work, b, b.atoms + n, tail);
             }
-            area::put(work, b.dependencies + (b.atoms + n), count);
+            words::put(work, b.dependencies + (b.atoms + n), count);
             tail
         }
         Initial::True => push(work, b, b.atoms + n, tail),
@@ -192,19 +193,19 @@ fn start_node(
 }
 
 // The nodes of the cone.
-fn start_nodes(
-    graph: &[u16],
+fn start_nodes<W: Word>(
+    graph: &[W],
     never: &[u64],
     atom_never: &[u64],
-    work: &mut [u16],
+    work: &mut [W],
     b: Bases,
     nodes: usize,
     tail: usize,
 ) -> usize
-    requires accepted { Accepted edition1 graph.now × Based graph.now (length work.old) b × Flagged b work.old (cyclic (theory_of graph.now)) }
-    requires nodes_le_nodes { (nodes ≤ b.nodes) × ConeListed graph.now (cone_nodes b work.old nodes) }
-    requires follows { Follows (AtNodes graph.now (bit_at never.now) (bit_at atom_never.now) b) work.old tail (as_vertices b (cone_nodes b work.old nodes)) }
-    ensures { Drives (AtNodes graph.now (bit_at never.now) (bit_at atom_never.now) b) b.dependencies work.old tail (as_vertices b (cone_nodes b work.old nodes)) work.new result [] }
+    requires accepted { Accepted W.edition (W.numbers graph.now) × Based (W.numbers graph.now) (length (W.numbers work.old)) b × Flagged b (W.numbers work.old) (cyclic (theory_of (W.numbers graph.now))) }
+    requires nodes_le_nodes { (nodes ≤ b.nodes) × ConeListed (W.numbers graph.now) (cone_nodes b (W.numbers work.old) nodes) }
+    requires follows { Follows (AtNodes (W.numbers graph.now) (bit_at never.now) (bit_at atom_never.now) b) (W.numbers work.old) tail (as_vertices b (cone_nodes b (W.numbers work.old) nodes)) }
+    ensures { Drives (AtNodes (W.numbers graph.now) (bit_at never.now) (bit_at atom_never.now) b) b.dependencies (W.numbers work.old) tail (as_vertices b (cone_nodes b (W.numbers work.old) nodes)) (W.numbers work.new) result [] }
 {
     let mut t = tail;
     let mut i = nodes;
@@ -216,7 +217,7 @@ fn start_nodes(
             atom_never,
             work,
             b,
-            graph::at(work, b.body_nodes + i),
+            words::at(work, b.body_nodes + i),
             t,
         );
     }
@@ -224,17 +225,17 @@ fn start_nodes(
 }
 
 // The counts of all vertices, and the queue of those found at once: how many.
-pub fn start(
-    graph: &[u16],
+pub fn start<W: Word>(
+    graph: &[W],
     never: &[u64],
     atom_never: &[u64],
-    work: &mut [u16],
+    work: &mut [W],
     b: Bases,
     nodes: usize,
     facts: usize,
 ) -> usize
-    requires { Accepted edition1 graph.now × Based graph.now (length work.old) b × Prepared graph.now b work.old nodes facts }
-    ensures { Begun graph.now (bit_at never.now) (bit_at atom_never.now) b work.old work.new result }
+    requires { Accepted W.edition (W.numbers graph.now) × Based (W.numbers graph.now) (length (W.numbers work.old)) b × Prepared (W.numbers graph.now) b (W.numbers work.old) nodes facts }
+    ensures { Begun (W.numbers graph.now) (bit_at never.now) (bit_at atom_never.now) b (W.numbers work.old) (W.numbers work.new) result }
 {
     first_counts(atom_never, work, b);
     let tail = activate_facts(graph, work, b, facts);

@@ -1,9 +1,11 @@
 // Masks: a set of numbers in 64-bit words, bit i % 64 of word i / 64, lowest first, for i.
 #![tactic(auto)]
 
-ghost use Rattle.std.specs.Prelude.{◌≡◌, ◌+◌, ◌*◌, ◌<◌, ◌≤◌, min, length};
+ghost use Rattle.std.specs.Prelude.{◌≡◌, ◌+◌, ◌*◌, ◌<◌, ◌≤◌, length};
 ghost use Rattle.theory.specs.Words.{bit_at};
 ghost use Rattle.mask.specs.Mask.{words_of, bits, pack, with_bit, flagged};
+
+use words::{Word, at};
 
 // The length of a mask over n numbers: ⌈n / 64⌉.
 pub fn words(n: usize) -> usize
@@ -32,38 +34,26 @@ pub fn set_bit(mask: &mut [u64], i: usize)
     mask[w] = mask[w] | (1u64 << (i % 64));
 }
 
-fn least(a: usize, b: usize) -> usize
-    ensures { result ≡ min a b }
-{
-    if a < b {
-        return a;
-    }
-    b
-}
-
 // Word w of the mask of the flags, from the highest flag down.
-pub fn flag_word(flags: &[u16], w: usize) -> u64
-    requires { 64 * w ≤ length flags.now }
-    ensures { result ≡ bits (flagged flags.now) (64 * w) 64 }
+pub fn flag_word<W: Word>(flags: &[W], w: usize) -> u64
+    requires { 64 * w ≤ length (W.numbers flags.now) }
+    ensures { result ≡ bits (flagged (W.numbers flags.now)) (64 * w) 64 }
 {
     let from = 64 * w;
-    let mut i = least(from + 64, flags.len());
+    let end = from + (flags.len() - from).min(64);
     let mut word: u64 = 0;
-    while from < i {
-        i -= 1;
-        word = (word << 1) | (flags[i] == 1) as u64;
+    for i in (from..end).rev() {
+        word = (word << 1) | (at(flags, i) == 1) as u64;
     }
     word
 }
 
 // Writes the set that the flags stand for, one flag a number.
-pub fn pack_flags(flags: &[u16], mask: &mut [u64])
-    requires { length mask.old ≡ words_of (length flags.now) }
-    ensures { mask.new ≡ pack (length flags.now) (flagged flags.now) }
+pub fn pack_flags<W: Word>(flags: &[W], mask: &mut [u64])
+    requires { length mask.old ≡ words_of (length (W.numbers flags.now)) }
+    ensures { mask.new ≡ pack (length (W.numbers flags.now)) (flagged (W.numbers flags.now)) }
 {
-    let mut w: usize = 0;
-    while w < mask.len() {
+    for w in 0..mask.len() {
         mask[w] = flag_word(flags, w);
-        w += 1;
     }
 }

@@ -3,7 +3,7 @@
 
 ghost use Rattle.std.specs.Prelude.{length};
 ghost use Rattle.theory.specs.Words.{bit_at};
-ghost use Rattle.theory.specs.Accepted.{Accepted, edition1};
+ghost use Rattle.theory.specs.Accepted.{Accepted};
 ghost use Rattle.area.specs.Layout.{bases_of, Based};
 ghost use Rattle.preparation.specs.Flags.{Marked, Listed};
 ghost use Rattle.preparation.specs.Stages.{Rowed, Onward, Marking, Staged, Passing};
@@ -11,6 +11,7 @@ ghost use Rattle.preparation.specs.Stages.{Rowed, Onward, Marking, Staged, Passi
 use adjacency::Table;
 use area::Bases;
 use cones::Coned;
+use words::Word;
 
 #[derive(Drop)]
 pub enum Marks {
@@ -19,9 +20,9 @@ pub enum Marks {
 }
 
 // The four row tables.
-fn build_rows(graph: &[u16], work: &mut [u16], b: Bases)
-    requires { Accepted edition1 graph.now × Based graph.now (length work.old) b }
-    ensures { Rowed graph.now b work.old work.new }
+fn build_rows<W: Word>(graph: &[W], work: &mut [W], b: Bases)
+    requires { Accepted W.edition (W.numbers graph.now) × Based (W.numbers graph.now) (length (W.numbers work.old)) b }
+    ensures { Rowed (W.numbers graph.now) b (W.numbers work.old) (W.numbers work.new) }
 {
     adjacency::build_in(graph, work, b, Table::AtomNodes);
     adjacency::build_in(graph, work, b, Table::Parents);
@@ -30,20 +31,20 @@ fn build_rows(graph: &[u16], work: &mut [u16], b: Bases)
 }
 
 // Atoms, which are vertices of preparation all of them, and the nodes of the body cone: the cyclic atoms among them.
-fn walk(graph: &[u16], work: &mut [u16], b: Bases)
-    requires { Accepted edition1 graph.now × Onward graph.now b work.old }
-    ensures { Marking graph.now b work.old work.new }
+fn walk<W: Word>(graph: &[W], work: &mut [W], b: Bases)
+    requires { Accepted W.edition (W.numbers graph.now) × Onward (W.numbers graph.now) b (W.numbers work.old) }
+    ensures { Marking (W.numbers graph.now) b (W.numbers work.old) (W.numbers work.new) }
 {
     let from = b.states;
     let to = from + b.atoms;
-    area::fill(&mut work[from..to], 1);
+    words::fill(&mut work[from..to], W::of(1));
     components::cyclic_atoms(graph, work, b);
 }
 
 // Row tables, body cone and cyclic atoms.
-fn mark_in(graph: &[u16], work: &mut [u16], b: Bases) -> Marks
-    requires { Accepted edition1 graph.now × Based graph.now (length work.old) b }
-    ensures { Staged graph.now b work.old work.new result }
+fn mark_in<W: Word>(graph: &[W], work: &mut [W], b: Bases) -> Marks
+    requires { Accepted W.edition (W.numbers graph.now) × Based (W.numbers graph.now) (length (W.numbers work.old)) b }
+    ensures { Staged (W.numbers graph.now) b (W.numbers work.old) (W.numbers work.new) result }
 {
     build_rows(graph, work, b);
     match cones::body_cone(graph, work, b) {
@@ -56,26 +57,26 @@ fn mark_in(graph: &[u16], work: &mut [u16], b: Bases) -> Marks
 }
 
 // The same, with the bases worked out here (`area::bases_of` says why).
-fn mark(graph: &[u16], work: &mut [u16]) -> Marks
-    requires { Accepted edition1 graph.now × Based graph.now (length work.old) (bases_of graph.now (length work.old)) }
-    ensures { Staged graph.now (bases_of graph.now (length work.old)) work.old work.new result }
+fn mark<W: Word>(graph: &[W], work: &mut [W]) -> Marks
+    requires { Accepted W.edition (W.numbers graph.now) × Based (W.numbers graph.now) (length (W.numbers work.old)) (bases_of (W.numbers graph.now) (length (W.numbers work.old))) }
+    ensures { Staged (W.numbers graph.now) (bases_of (W.numbers graph.now) (length (W.numbers work.old))) (W.numbers work.old) (W.numbers work.new) result }
 {
     let words = work.len();
     mark_in(graph, work, area::bases_of(graph, words))
 }
 
 // The cyclic atoms, flagged.
-pub fn cyclic_atoms(graph: &[u16], work: &mut [u16], b: Bases) -> Marks
-    requires { Accepted edition1 graph.now × Based graph.now (length work.old) b }
-    ensures { Marked graph.now b work.old work.new result }
+pub fn cyclic_atoms<W: Word>(graph: &[W], work: &mut [W], b: Bases) -> Marks
+    requires { Accepted W.edition (W.numbers graph.now) × Based (W.numbers graph.now) (length (W.numbers work.old)) b }
+    ensures { Marked (W.numbers graph.now) b (W.numbers work.old) (W.numbers work.new) result }
 {
     mark(graph, work)
 }
 
 // The pass: what is founded is settled.
-fn pass(graph: &[u16], never: &[u64], atom_never: &[u64], work: &mut [u16], b: Bases)
-    requires { Accepted edition1 graph.now × Based graph.now (length work.old) b × Marking graph.now b work.old work.old }
-    ensures { Passing graph.now (bit_at never.now) (bit_at atom_never.now) b work.old work.new }
+fn pass<W: Word>(graph: &[W], never: &[u64], atom_never: &[u64], work: &mut [W], b: Bases)
+    requires { Accepted W.edition (W.numbers graph.now) × Based (W.numbers graph.now) (length (W.numbers work.old)) b × Marking (W.numbers graph.now) b (W.numbers work.old) (W.numbers work.old) }
+    ensures { Passing (W.numbers graph.now) (bit_at never.now) (bit_at atom_never.now) b (W.numbers work.old) (W.numbers work.new) }
 {
     let c = cones::cyclic_cone(graph, work, b);
     let first = initialization::start(graph, never, atom_never, work, b, c.nodes, c.facts);
@@ -83,15 +84,15 @@ fn pass(graph: &[u16], never: &[u64], atom_never: &[u64], work: &mut [u16], b: B
 }
 
 // The missing atoms, flagged where their counts were.
-pub fn missing(
-    graph: &[u16],
+pub fn missing<W: Word>(
+    graph: &[W],
     never: &[u64],
     atom_never: &[u64],
-    work: &mut [u16],
+    work: &mut [W],
     b: Bases,
 ) -> Marks
-    requires { Accepted edition1 graph.now × Based graph.now (length work.old) b }
-    ensures { Listed graph.now (bit_at never.now) (bit_at atom_never.now) b work.old work.new result }
+    requires { Accepted W.edition (W.numbers graph.now) × Based (W.numbers graph.now) (length (W.numbers work.old)) b }
+    ensures { Listed (W.numbers graph.now) (bit_at never.now) (bit_at atom_never.now) b (W.numbers work.old) (W.numbers work.new) result }
 {
     match mark(graph, work) {
         Marks::Absorbed(n) => Marks::Absorbed(n),

@@ -2,19 +2,16 @@
 // check itself are in crate checking.
 #![tactic(auto)]
 
-pub mod edition;
-
 ghost use Rattle.std.specs.Prelude.{◌≡◌, ◌+◌, ◌≤◌, length, get_or};
-ghost use Rattle.theory.specs.Accepted.{edition1};
 ghost use Rattle.refusals.specs.Passed.{Sized, turns, turns_at};
 ghost use Rattle.refusals.specs.Search.{Clear, First};
 ghost use Rattle.refusals.specs.Refusals.{bad_edition, bad_counts, bad_size, bad_operand, bad_first, bad_record, bad_node, bad_body, bad_producer, bad_next, bad_link};
 
-use crate::edition::{COUNTS, LINKS, NUMBER};
 use graph::{
-    at, atoms, body, first_head, first_leaf, kind, links, links_from, next, nodes, operand,
-    producers, takes_links, takes_operand,
+    atoms, body, first_head, first_leaf, kind, links, links_from, next, nodes, operand, producers,
+    takes_links, takes_operand,
 };
+use words::{Word, at};
 
 // What the check answers. specs/Refusals has the number and place of each.
 #[derive(Clone, Copy)]
@@ -33,36 +30,36 @@ pub enum Checked {
 }
 
 // Row 1.
-pub fn bad_edition(graph: &[u16]) -> bool
-    ensures { result ≡ bad_edition edition1 graph.now }
+pub fn bad_edition<W: Word>(graph: &[W]) -> bool
+    ensures { result ≡ bad_edition W.edition (W.numbers graph.now) }
 {
     if graph.len() < 5 {
         return true;
     }
-    at(graph, 0) != NUMBER
+    at(graph, 0) != W::NUMBER
 }
 
 // Row 2.
-pub fn bad_counts(graph: &[u16]) -> bool
-    requires { 5 ≤ length graph.now }
-    ensures { result ≡ bad_counts edition1 graph.now }
+pub fn bad_counts<W: Word>(graph: &[W]) -> bool
+    requires { 5 ≤ length (W.numbers graph.now) }
+    ensures { result ≡ bad_counts W.edition (W.numbers graph.now) }
 {
-    if COUNTS < atoms(graph) {
+    if W::COUNTS < atoms(graph) {
         return true;
     }
-    if COUNTS < nodes(graph) {
+    if W::COUNTS < nodes(graph) {
         return true;
     }
-    if COUNTS < producers(graph) {
+    if W::COUNTS < producers(graph) {
         return true;
     }
-    LINKS < links(graph)
+    W::LINKS < links(graph)
 }
 
 // Row 3.
-pub fn bad_size(graph: &[u16]) -> bool
-    requires { 5 ≤ length graph.now }
-    ensures { result ≡ bad_size graph.now }
+pub fn bad_size<W: Word>(graph: &[W]) -> bool
+    requires { 5 ≤ length (W.numbers graph.now) }
+    ensures { result ≡ bad_size (W.numbers graph.now) }
 {
     graph.len() != 5 + 3 * at(graph, 2) + 2 * at(graph, 3) + 2 * at(graph, 4)
 }
@@ -104,9 +101,9 @@ fn bad_record(kind: usize, operand: usize, first: usize, atoms: usize, links: us
 }
 
 // The first node whose record is wrong, or N.
-pub fn bad_node(graph: &[u16]) -> usize
-    requires { Sized edition1 graph.now }
-    ensures { First (bad_node graph.now) 0 (get_or graph.now 2 0) result }
+pub fn bad_node<W: Word>(graph: &[W]) -> usize
+    requires { Sized W.edition (W.numbers graph.now) }
+    ensures { First (bad_node (W.numbers graph.now)) 0 (get_or (W.numbers graph.now) 2 0) result }
 {
     let end = nodes(graph);
     let atoms = atoms(graph);
@@ -137,9 +134,9 @@ fn bad_body(body: usize, first: usize, nodes: usize, links: usize) -> bool
     links < first
 }
 
-pub fn bad_producer(graph: &[u16]) -> usize
-    requires { Sized edition1 graph.now }
-    ensures { First (bad_producer graph.now) 0 (get_or graph.now 3 0) result }
+pub fn bad_producer<W: Word>(graph: &[W]) -> usize
+    requires { Sized W.edition (W.numbers graph.now) }
+    ensures { First (bad_producer (W.numbers graph.now)) 0 (get_or (W.numbers graph.now) 3 0) result }
 {
     let end = producers(graph);
     let nodes = nodes(graph);
@@ -167,9 +164,9 @@ fn turns(next: usize, l: usize, links: usize) -> bool
     next <= l
 }
 
-pub fn first_turn(graph: &[u16]) -> usize
-    requires { Sized edition1 graph.now }
-    ensures { First (turns_at graph.now) 1 (get_or graph.now 4 0 + 1) result }
+pub fn first_turn<W: Word>(graph: &[W]) -> usize
+    requires { Sized W.edition (W.numbers graph.now) }
+    ensures { First (turns_at (W.numbers graph.now)) 1 (get_or (W.numbers graph.now) 4 0 + 1) result }
 {
     let end = links(graph);
     let from = links_from(graph);
@@ -190,9 +187,9 @@ fn bad_next(next: usize, links: usize) -> bool
     links < next
 }
 
-pub fn bad_link(graph: &[u16], start: usize) -> usize
-    requires { Sized edition1 graph.now × (start ≤ get_or graph.now 4 0) × Clear (turns_at graph.now) 1 start }
-    ensures { First (bad_link graph.now) 1 (get_or graph.now 4 0 + 1) result }
+pub fn bad_link<W: Word>(graph: &[W], start: usize) -> usize
+    requires { Sized W.edition (W.numbers graph.now) × (start ≤ get_or (W.numbers graph.now) 4 0) × Clear (turns_at (W.numbers graph.now)) 1 start }
+    ensures { First (bad_link (W.numbers graph.now)) 1 (get_or (W.numbers graph.now) 4 0 + 1) result }
 {
     let end = links(graph);
     let from = links_from(graph);

@@ -1,28 +1,41 @@
-use mathlib.Core.Path.{◌≡◌}
+use mathlib.Core.Path.{◌≡◌, ◌∙◌}
 use native.Mathlib.Omega.{arith}
-use Prim.Native.Nat.{◌-◌}
+use Prim.Native.Nat.{◌-◌, ◌≤◌}
 use lib.ListN.{length, length-take, length-drop}
+use Rattle.words.proofs.NumberLaws.{numbers_length, numbers_part, numbers_splice}
 use Rattle.adjacency.proofs.KeyLaws.{part_fits}
 use Rattle.adjacency.proofs.TableLaws.{stood}
 use borrow.Author.Rules.{rules}
 use Rattle.adjacency.proofs.build_in.Goals as goal
 
 pub offset_bounds-work-from : goal.offset_bounds-work-from
-offset_bounds-work-from c = let f = part_fits c.requires.1 c.args.table in let e = c.base-from.ensures in omega arith
+offset_bounds-work-from g c =
+    let f = part_fits c.requires.1 c.args.table in
+    let e = c.base-from.ensures in
+    let long = numbers_length g.met.W.Word.each c.args.work.now in
+    let low : c.base-from.result ≤ length c.args.work.now = omega arith in
+    search rules
 
 pub slice_bounds-build-count : goal.slice_bounds-build-count
-slice_bounds-build-count c = let f = part_fits c.requires.1 c.args.table in let e = c.base-from.ensures in let g = c.next-to.ensures in omega arith
+slice_bounds-build-count g c = let f = part_fits c.requires.1 c.args.table in let e = c.base-from.ensures in let t = c.next-to.ensures in let long = numbers_length g.met.W.Word.each c.args.work.now in omega arith
 
 pub slice_bounds-build-start : goal.slice_bounds-build-start
-slice_bounds-build-start c = let f = part_fits c.requires.1 c.args.table in let e = c.base-from.ensures in let g = c.next-to.ensures in omega arith
+slice_bounds-build-start g c = let f = part_fits c.requires.1 c.args.table in let e = c.base-from.ensures in let t = c.next-to.ensures in let long = numbers_length g.met.W.Word.each c.args.work.now in omega arith
 
 pub slice_bounds-build-end : goal.slice_bounds-build-end
-slice_bounds-build-end c = let f = part_fits c.requires.1 c.args.table in let e = c.base-from.ensures in let g = c.next-to.ensures in omega arith
+slice_bounds-build-end g c = let f = part_fits c.requires.1 c.args.table in let e = c.base-from.ensures in let t = c.next-to.ensures in let long = numbers_length g.met.W.Word.each c.args.work.now in omega arith
 
 pub build-requires : goal.build-requires
-build-requires c = let f = part_fits c.requires.1 c.args.table in let e = c.base-from.ensures in let g = c.next-to.ensures in (c.requires.0, simp (length-take, length-drop) (omega arith))
+build-requires g c =
+    let f = part_fits c.requires.1 c.args.table in
+    let e = c.base-from.ensures in
+    let t = c.next-to.ensures in
+    (c.requires.0, rw (numbers_part g.met.W.Word.each c.base-from.result (c.next-to.result - c.base-from.result) c.args.work.now) (simp (length-take, length-drop) (omega arith)))
 
 pub returns : goal.returns
-returns c =
-    let l : length c.build.new.part ≡ c.next-to.result - c.base-from.result = search rules in
-    stood c.args.work.now c.build.new.part c.base-from.ensures c.next-to.ensures (part_fits c.requires.1 c.args.table) l c.build.ensures
+returns g c =
+    let n : _ = c.next-to.result - c.base-from.result in
+    let part : length (g.W.Word.numbers c.build.new.part) ≡ n = numbers_length g.met.W.Word.each c.build.new.part ∙ search rules in
+    let built = rw (numbers_part g.met.W.Word.each c.base-from.result n c.args.work.now) at c.build.ensures in
+    rw (numbers_splice g.met.W.Word.each c.base-from.result n c.args.work.now c.build.new.part)
+    (stood (g.W.Word.numbers c.args.work.now) (g.W.Word.numbers c.build.new.part) c.base-from.ensures c.next-to.ensures (part_fits c.requires.1 c.args.table) part built)

@@ -5,16 +5,16 @@ use Rattle.adjacency.proofs.items.Goals as goal
 
 pub returns-in-AtomNodes : goal.returns-in-AtomNodes
 unfolding theory_of
-returns-in-AtomNodes c = let e : c.args.table ≡ AtomNodes = c.in-AtomNodes.is in rw e c.nodes.ensures
+returns-in-AtomNodes g c = let e : c.args.table ≡ AtomNodes = c.in-AtomNodes.is in rw e c.nodes.ensures
 
 pub returns-in-Parents : goal.returns-in-Parents
 unfolding theory_of
-returns-in-Parents c = let e : c.args.table ≡ Parents = c.in-Parents.is in rw e c.nodes-in-Parents.ensures
+returns-in-Parents g c = let e : c.args.table ≡ Parents = c.in-Parents.is in rw e c.nodes-in-Parents.ensures
 
 pub returns-in-ByHead : goal.returns-in-ByHead
 unfolding theory_of
-returns-in-ByHead c = let e : c.args.table ≡ ByHead = c.in-ByHead.is in rw e c.producers.ensures
+returns-in-ByHead g c = let e : c.args.table ≡ ByHead = c.in-ByHead.is in rw e c.producers.ensures
 
 pub returns-in-ByBody : goal.returns-in-ByBody
 unfolding theory_of
-returns-in-ByBody c = let e : c.args.table ≡ ByBody = c.in-ByBody.is in rw e c.producers-in-ByBody.ensures
+returns-in-ByBody g c = let e : c.args.table ≡ ByBody = c.in-ByBody.is in rw e c.producers-in-ByBody.ensures

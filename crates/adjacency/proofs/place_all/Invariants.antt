@@ -7,7 +7,7 @@ use Rattle.adjacency.specs.Building.{Building}
 use Rattle.adjacency.proofs.place_all.Given as goal
 
 abbrev pub invariant-loop-i : goal.invariant-loop-i
-invariant-loop-i l = Drives (Building 65536 l.filling l.rows) 0 l.initial.part 0 (edges_of (theory_of l.graph) l.table) l.part 0 (stream (keys_of (theory_of l.graph) l.table) l.i (l.n - l.i))
+invariant-loop-i g l = Drives (Building g.W.Word.limit l.filling l.rows) 0 (g.W.Word.numbers l.initial.part) 0 (edges_of (theory_of (g.W.Word.numbers l.graph)) l.table) (g.W.Word.numbers l.part) 0 (stream (keys_of (theory_of (g.W.Word.numbers l.graph)) l.table) l.i (l.n - l.i))
 
 abbrev pub decreases-loop-i : goal.decreases-loop-i
-decreases-loop-i l = l.n - l.i
+decreases-loop-i g l = l.n - l.i

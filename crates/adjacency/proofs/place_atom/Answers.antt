@@ -8,17 +8,17 @@ use Rattle.adjacency.proofs.place_atom.Goals as goal
 
 pub kind-requires : goal.kind-requires
 unfolding theory_of
-kind-requires c = record { size = c.requires.accepted.0.size; below = c.requires.accepted.1 }
+kind-requires g c = record { size = c.requires.accepted.0.size; below = c.requires.accepted.1 }
 
 pub operand-requires : goal.operand-requires
 unfolding theory_of
-operand-requires c = record { size = c.requires.accepted.0.size; below = c.requires.accepted.1 }
+operand-requires g c = record { size = c.requires.accepted.0.size; below = c.requires.accepted.1 }
 
 pub place-requires : goal.place-requires
-place-requires c = rw c.operand.ensures (rw (ap (tagged c.args.n) (atom_keys_lem c.args.graph.now c.args.n (sym c.kind.ensures ∙ c.if-kind-eq1.true))) at c.requires.follows)
+place-requires g c = rw c.operand.ensures (rw (ap (tagged c.args.n) (atom_keys_lem (g.W.Word.numbers c.args.graph.now) c.args.n (sym c.kind.ensures ∙ c.if-kind-eq1.true))) at c.requires.follows)
 
 pub returns-then-kind-eq1 : goal.returns-then-kind-eq1
-returns-then-kind-eq1 c = rw (ap (tagged c.args.n) (atom_keys_lem c.args.graph.now c.args.n (sym c.kind.ensures ∙ c.if-kind-eq1.true))) (rw c.operand.ensures at c.place.ensures)
+returns-then-kind-eq1 g c = rw (ap (tagged c.args.n) (atom_keys_lem (g.W.Word.numbers c.args.graph.now) c.args.n (sym c.kind.ensures ∙ c.if-kind-eq1.true))) (rw c.operand.ensures at c.place.ensures)
 
 pub returns : goal.returns
-returns c = rw (ap (tagged c.args.n) (atom_no_keys c.args.graph.now c.args.n (λ e. c.if-kind-eq1.false (c.kind.ensures ∙ e)))) (drives_none (Building 65536 c.args.filling c.args.rows))
+returns g c = rw (ap (tagged c.args.n) (atom_no_keys (g.W.Word.numbers c.args.graph.now) c.args.n (λ e. c.if-kind-eq1.false (c.kind.ensures ∙ e)))) (drives_none (Building g.W.Word.limit c.args.filling c.args.rows))

@@ -10,13 +10,13 @@ use Rattle.adjacency.proofs.place_body.Goals as goal
 
 pub body-body-requires : goal.body-body-requires
 unfolding theory_of
-body-body-requires c = record { size = c.requires.accepted.0.size; below = c.requires.accepted.1 }
+body-body-requires g c = record { size = c.requires.accepted.0.size; below = c.requires.accepted.1 }
 
 pub place-requires : goal.place-requires
-place-requires c = rw (ap (λ k. tagged c.args.p (body_keys k)) (the_body c.args.graph.now c.args.p ∙ sym c.body-body.ensures) ∙ ap (tagged c.args.p) (body_keys_lem c.body-body.result c.if-body-gt0.true)) at c.requires.follows
+place-requires g c = rw (ap (λ k. tagged c.args.p (body_keys k)) (the_body (g.W.Word.numbers c.args.graph.now) c.args.p ∙ sym c.body-body.ensures) ∙ ap (tagged c.args.p) (body_keys_lem c.body-body.result c.if-body-gt0.true)) at c.requires.follows
 
 pub returns-then-body-gt0 : goal.returns-then-body-gt0
-returns-then-body-gt0 c = rw (ap (λ k. tagged c.args.p (body_keys k)) (the_body c.args.graph.now c.args.p ∙ sym c.body-body.ensures) ∙ ap (tagged c.args.p) (body_keys_lem c.body-body.result c.if-body-gt0.true)) c.place.ensures
+returns-then-body-gt0 g c = rw (ap (λ k. tagged c.args.p (body_keys k)) (the_body (g.W.Word.numbers c.args.graph.now) c.args.p ∙ sym c.body-body.ensures) ∙ ap (tagged c.args.p) (body_keys_lem c.body-body.result c.if-body-gt0.true)) c.place.ensures
 
 pub returns : goal.returns
-returns c = rw (ap (λ k. tagged c.args.p (body_keys k)) (the_body c.args.graph.now c.args.p ∙ sym c.body-body.ensures) ∙ ap (tagged c.args.p) (body_no_keys c.body-body.result (omega arith))) (drives_none (Building 65536 c.args.filling c.args.rows))
+returns g c = rw (ap (λ k. tagged c.args.p (body_keys k)) (the_body (g.W.Word.numbers c.args.graph.now) c.args.p ∙ sym c.body-body.ensures) ∙ ap (tagged c.args.p) (body_no_keys c.body-body.result (omega arith))) (drives_none (Building g.W.Word.limit c.args.filling c.args.rows))

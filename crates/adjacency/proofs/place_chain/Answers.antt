@@ -10,25 +10,25 @@ use Rattle.adjacency.specs.Building.{Building}
 use Rattle.adjacency.proofs.place_chain.Goals as goal
 
 pub links_from-from-requires : goal.links_from-from-requires
-links_from-from-requires c = c.requires.accepted.0.size
+links_from-from-requires g c = c.requires.accepted.0.size
 
 pub loop-l-init : goal.loop-l-init
-loop-l-init c = (c.requires.accepted.1, drives_none (Building 65536 c.args.filling c.args.rows))
+loop-l-init g c = (c.requires.accepted.1, drives_none (Building g.W.Word.limit c.args.filling c.args.rows))
 
 pub value-row-requires : goal.value-row-requires
-value-row-requires c = link_in c.links_from-from.ensures c.requires.accepted.0 c.loop-l.invariant.0 (omega arith)
+value-row-requires g c = link_in c.links_from-from.ensures c.requires.accepted.0 c.loop-l.invariant.0 (omega arith)
 
 pub next-l-requires : goal.next-l-requires
-next-l-requires c = link_in c.links_from-from.ensures c.requires.accepted.0 c.loop-l.invariant.0 (omega arith)
+next-l-requires g c = link_in c.links_from-from.ensures c.requires.accepted.0 c.loop-l.invariant.0 (omega arith)
 
 pub place-requires : goal.place-requires
-place-requires c = turn_next (Building 65536 c.args.filling c.args.rows) (tagged c.args.item) (λ r. edge r c.args.item ∷ []) (λ r l. refl) c.loop-l.invariant.1 (chain_turn c.args.graph.now c.loop-l.invariant.0 (omega arith) (value_of_lem c.links_from-from.ensures c.loop-l.l c.value-row.ensures (omega arith)) refl) c.requires.follows
+place-requires g c = turn_next (Building g.W.Word.limit c.args.filling c.args.rows) (tagged c.args.item) (λ r. edge r c.args.item ∷ []) (λ r l. refl) c.loop-l.invariant.1 (chain_turn (g.W.Word.numbers c.args.graph.now) c.loop-l.invariant.0 (omega arith) (value_of_lem c.links_from-from.ensures c.loop-l.l c.value-row.ensures (omega arith)) refl) c.requires.follows
 
 pub loop-l-smaller : goal.loop-l-smaller
-loop-l-smaller c = rw (next_of_lem c.links_from-from.ensures c.loop-l.l c.next-l.ensures (omega arith)) (chain_falls c.args.graph.now c.loop-l.invariant.0 (omega arith))
+loop-l-smaller g c = rw (next_of_lem c.links_from-from.ensures c.loop-l.l c.next-l.ensures (omega arith)) (chain_falls (g.W.Word.numbers c.args.graph.now) c.loop-l.invariant.0 (omega arith))
 
 pub loop-l-preserved : goal.loop-l-preserved
-loop-l-preserved c = (rw (next_of_lem c.links_from-from.ensures c.loop-l.l c.next-l.ensures (omega arith)) (once_next c.args.graph.now c.loop-l.invariant.0 (omega arith)), turn_more (Building 65536 c.args.filling c.args.rows) (tagged c.args.item) (λ r. edge r c.args.item ∷ []) (λ r l. refl) c.loop-l.invariant.1 (chain_turn c.args.graph.now c.loop-l.invariant.0 (omega arith) (value_of_lem c.links_from-from.ensures c.loop-l.l c.value-row.ensures (omega arith)) (next_of_lem c.links_from-from.ensures c.loop-l.l c.next-l.ensures (omega arith))) c.place.ensures)
+loop-l-preserved g c = (rw (next_of_lem c.links_from-from.ensures c.loop-l.l c.next-l.ensures (omega arith)) (once_next (g.W.Word.numbers c.args.graph.now) c.loop-l.invariant.0 (omega arith)), turn_more (Building g.W.Word.limit c.args.filling c.args.rows) (tagged c.args.item) (λ r. edge r c.args.item ∷ []) (λ r l. refl) c.loop-l.invariant.1 (chain_turn (g.W.Word.numbers c.args.graph.now) c.loop-l.invariant.0 (omega arith) (value_of_lem c.links_from-from.ensures c.loop-l.l c.value-row.ensures (omega arith)) (next_of_lem c.links_from-from.ensures c.loop-l.l c.next-l.ensures (omega arith))) c.place.ensures)
 
 pub returns : goal.returns
-returns c = let e : c.loop-l.l ≡ 0 = omega arith in let z : chain c.args.graph.now c.loop-l.l ≡ [] = rw e (chain_end c.args.graph.now) in turn_done (Building 65536 c.args.filling c.args.rows) (tagged c.args.item) (λ r. edge r c.args.item ∷ []) (λ r l. refl) c.loop-l.invariant.1 z refl
+returns g c = let e : c.loop-l.l ≡ 0 = omega arith in let z : chain (g.W.Word.numbers c.args.graph.now) c.loop-l.l ≡ [] = rw e (chain_end (g.W.Word.numbers c.args.graph.now)) in turn_done (Building g.W.Word.limit c.args.filling c.args.rows) (tagged c.args.item) (λ r. edge r c.args.item ∷ []) (λ r l. refl) c.loop-l.invariant.1 z refl

@@ -7,7 +7,7 @@ use Rattle.adjacency.specs.Building.{Building}
 use Rattle.adjacency.proofs.place_chain.Given as goal
 
 abbrev pub invariant-loop-l : goal.invariant-loop-l
-invariant-loop-l l = MeetsOnce l.graph l.l × Drives (Building 65536 l.filling l.rows) 0 l.initial.part 0 (tagged l.item (chain l.graph l.first)) l.part 0 (tagged l.item (chain l.graph l.l))
+invariant-loop-l g l = MeetsOnce (g.W.Word.numbers l.graph) l.l × Drives (Building g.W.Word.limit l.filling l.rows) 0 (g.W.Word.numbers l.initial.part) 0 (tagged l.item (chain (g.W.Word.numbers l.graph) l.first)) (g.W.Word.numbers l.part) 0 (tagged l.item (chain (g.W.Word.numbers l.graph) l.l))
 
 abbrev pub decreases-loop-l : goal.decreases-loop-l
-decreases-loop-l l = length (chain l.graph l.l)
+decreases-loop-l g l = length (chain (g.W.Word.numbers l.graph) l.l)

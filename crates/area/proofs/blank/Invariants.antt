@@ -1,10 +1,5 @@
-use Prim.Native.Nat.{◌-◌, ◌≤◌}
-use lib.ListN.{length}
 use Rattle.area.proofs.WipeLaws.{BlankTo}
 use Rattle.area.proofs.blank.Given as goal
 
-abbrev pub invariant-loop-j : goal.invariant-loop-j
-invariant-loop-j l = (l.j ≤ length l.words) × BlankTo l.words l.all l.j
-
-abbrev pub decreases-loop-j : goal.decreases-loop-j
-decreases-loop-j l = length l.words - l.j
+abbrev pub invariant-loop-word : goal.invariant-loop-word
+invariant-loop-word g l = BlankTo (g.W.Word.numbers l.words) (g.W.Word.number l.all) l.word-index

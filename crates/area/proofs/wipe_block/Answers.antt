@@ -1,4 +1,4 @@
 use Rattle.area.proofs.wipe_block.Goals as goal
 
 pub returns-then-blank : goal.returns-then-blank
-returns-then-blank c = c.blank.ensures c.if-blank.true
+returns-then-blank g c = c.blank.ensures c.if-blank.true

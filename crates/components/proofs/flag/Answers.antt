@@ -3,25 +3,25 @@ use Rattle.components.proofs.FlagLaws.{flagging_start, flagging_low, flagging_ne
 use Rattle.components.proofs.flag.Goals as goal
 
 pub overflow_add-from : goal.overflow_add-from
-overflow_add-from c = let l = c.requires.0.laid in let q = c.requires.0.ends in let f = flagging_low c.requires.0 c.requires.1 in let a = c.requires.1.after in omega arith
+overflow_add-from g c = let l = c.requires.0.laid in let q = c.requires.0.ends in let f = flagging_low c.requires.0 c.requires.1 in let a = c.requires.1.after in omega arith
 
 pub returns-then-to-from : goal.returns-then-to-from
-returns-then-to-from c = alone_end c.requires.0 c.requires.1 c.if-to-from.true
+returns-then-to-from g c = alone_end c.requires.0 c.requires.1 c.if-to-from.true
 
 pub loop-i-init : goal.loop-i-init
-loop-i-init c = flagging_start c.requires.0 c.requires.1
+loop-i-init g c = flagging_start c.requires.0 c.requires.1
 
 pub flag_member-requires : goal.flag_member-requires
-flag_member-requires c = let q = c.requires.0.ends in let f = flagging_low c.requires.0 c.requires.1 in let z = c.loop-i-test.true in let s = c.loop-i.invariant.size in (c.requires.0.laid, omega arith, omega arith)
+flag_member-requires g c = let q = c.requires.0.ends in let f = flagging_low c.requires.0 c.requires.1 in let z = c.loop-i-test.true in let s = c.loop-i.invariant.size in (c.requires.0.laid, omega arith, omega arith)
 
 pub overflow_add-i : goal.overflow_add-i
-overflow_add-i c = let l = c.requires.0.laid in let q = c.requires.0.ends in let f = flagging_low c.requires.0 c.requires.1 in let z = c.loop-i-test.true in omega arith
+overflow_add-i g c = let l = c.requires.0.laid in let q = c.requires.0.ends in let f = flagging_low c.requires.0 c.requires.1 in let z = c.loop-i-test.true in omega arith
 
 pub loop-i-smaller : goal.loop-i-smaller
-loop-i-smaller c = let z = c.loop-i-test.true in omega arith
+loop-i-smaller g c = let z = c.loop-i-test.true in omega arith
 
 pub loop-i-preserved : goal.loop-i-preserved
-loop-i-preserved c = rw c.flag_member.ensures (flagging_next c.requires.0 c.requires.1 c.loop-i.i c.loop-i.invariant c.loop-i-test.true c.if-to-from.false)
+loop-i-preserved g c = rw c.flag_member.ensures (flagging_next c.requires.0 c.requires.1 c.loop-i.i c.loop-i.invariant c.loop-i-test.true c.if-to-from.false)
 
 pub returns : goal.returns
-returns c = flagging_end c.requires.0 c.requires.1 c.loop-i.i c.loop-i.invariant c.loop-i-test.false
+returns g c = flagging_end c.requires.0 c.requires.1 c.loop-i.i c.loop-i.invariant c.loop-i-test.false

@@ -3,7 +3,7 @@ use Rattle.components.proofs.FlagLaws.{Flagging}
 use Rattle.components.proofs.flag.Given as goal
 
 abbrev pub invariant-loop-i : goal.invariant-loop-i
-invariant-loop-i l = Flagging l.graph l.b l.initial.work l.work l.from l.to l.i
+invariant-loop-i g l = Flagging (g.W.Word.numbers l.graph) l.b (g.W.Word.numbers l.initial.work) (g.W.Word.numbers l.work) l.from l.to l.i
 
 abbrev pub decreases-loop-i : goal.decreases-loop-i
-decreases-loop-i l = l.to - l.i
+decreases-loop-i g l = l.to - l.i

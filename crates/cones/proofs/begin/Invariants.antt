@@ -5,7 +5,7 @@ use Rattle.cones.specs.Finding.{Begun}
 use Rattle.cones.proofs.begin.Given as goal
 
 abbrev pub invariant-loop-p : goal.invariant-loop-p
-invariant-loop-p l = Begun 65536 (theory_of l.graph) l.cyclic_only l.b l.work l.p l.c × Kept l.b l.initial.work l.work
+invariant-loop-p g l = Begun g.W.Word.limit (theory_of (g.W.Word.numbers l.graph)) l.cyclic_only l.b (g.W.Word.numbers l.work) l.p l.c × Kept l.b (g.W.Word.numbers l.initial.work) (g.W.Word.numbers l.work)
 
 abbrev pub decreases-loop-p : goal.decreases-loop-p
-decreases-loop-p l = l.b.producers - l.p
+decreases-loop-p g l = l.b.producers - l.p

@@ -6,17 +6,17 @@ use Rattle.cones.proofs.BeginLaws.{kept_none, begun_skip, begun_follows, begun_b
 use Rattle.cones.proofs.begin_at.Goals as goal
 
 pub returns-then-not-wanted : goal.returns-then-not-wanted
-returns-then-not-wanted c = (begun_skip c.requires.begun c.requires.accepted.2 c.wanted.ensures (ap not c.if-not-wanted.true), kept_none)
+returns-then-not-wanted g c = (begun_skip c.requires.begun c.requires.accepted.2 c.wanted.ensures (ap not c.if-not-wanted.true), kept_none)
 
 pub body-body-requires : goal.body-body-requires
 unfolding theory_of
-body-body-requires c = record { size = c.requires.accepted.0.size; below = c.requires.accepted.2 }
+body-body-requires g c = record { size = c.requires.accepted.0.size; below = c.requires.accepted.2 }
 
 pub include-more-requires : goal.include-more-requires
-include-more-requires c = begun_follows c.requires.begun c.requires.accepted.2 c.wanted.ensures (ap not c.if-not-wanted.false) (the_body c.args.graph.now c.args.p ∙ sym c.body-body.ensures) c.requires.accepted.0.well_formed c.if-body-gt0.true
+include-more-requires g c = begun_follows c.requires.begun c.requires.accepted.2 c.wanted.ensures (ap not c.if-not-wanted.false) (the_body (g.W.Word.numbers c.args.graph.now) c.args.p ∙ sym c.body-body.ensures) c.requires.accepted.0.well_formed c.if-body-gt0.true
 
 pub returns-then-body-gt0 : goal.returns-then-body-gt0
-returns-then-body-gt0 c = begun_body c.requires.begun c.requires.accepted.2 c.wanted.ensures (ap not c.if-not-wanted.false) (the_body c.args.graph.now c.args.p ∙ sym c.body-body.ensures) c.requires.accepted.0.well_formed c.if-body-gt0.true c.include-more.ensures
+returns-then-body-gt0 g c = begun_body c.requires.begun c.requires.accepted.2 c.wanted.ensures (ap not c.if-not-wanted.false) (the_body (g.W.Word.numbers c.args.graph.now) c.args.p ∙ sym c.body-body.ensures) c.requires.accepted.0.well_formed c.if-body-gt0.true c.include-more.ensures
 
 pub returns : goal.returns
-returns c = rw c.put.ensures (begun_fact c.requires.begun c.requires.accepted.2 c.wanted.ensures (ap not c.if-not-wanted.false) (the_body c.args.graph.now c.args.p ∙ sym c.body-body.ensures) c.if-body-gt0.false)
+returns g c = rw c.put.ensures (begun_fact c.requires.begun c.requires.accepted.2 c.wanted.ensures (ap not c.if-not-wanted.false) (the_body (g.W.Word.numbers c.args.graph.now) c.args.p ∙ sym c.body-body.ensures) c.if-body-gt0.false)

@@ -8,7 +8,7 @@ use Rattle.cones.specs.Finding.{stage, Searching}
 use Rattle.cones.proofs.find_in.Given as goal
 
 abbrev pub invariant-loop-next : goal.invariant-loop-next
-invariant-loop-next l = Searching 65536 l.b (stage (theory_of l.graph) (wanted_by (theory_of l.graph) l.cyclic_only) (theory_of l.graph).producers l.next (drop l.b.fact_rows l.initial.work)) l.work l.nodes [] × (length l.work ≡ length l.initial.work) × (take l.b.states l.work ≡ take l.b.states l.initial.work)
+invariant-loop-next g l = Searching g.W.Word.limit l.b (stage (theory_of (g.W.Word.numbers l.graph)) (wanted_by (theory_of (g.W.Word.numbers l.graph)) l.cyclic_only) (theory_of (g.W.Word.numbers l.graph)).producers l.next (drop l.b.fact_rows (g.W.Word.numbers l.initial.work))) (g.W.Word.numbers l.work) l.nodes [] × (length (g.W.Word.numbers l.work) ≡ length (g.W.Word.numbers l.initial.work)) × (take l.b.states (g.W.Word.numbers l.work) ≡ take l.b.states (g.W.Word.numbers l.initial.work))
 
 abbrev pub decreases-loop-next : goal.decreases-loop-next
-decreases-loop-next l = l.b.nodes - l.next
+decreases-loop-next g l = l.b.nodes - l.next

@@ -8,29 +8,29 @@ use Rattle.cones.specs.Finding.{Searching}
 use Rattle.cones.proofs.include_chain.Goals as goal
 
 pub links_from-from-requires : goal.links_from-from-requires
-links_from-from-requires c = c.requires.accepted.0.size
+links_from-from-requires g c = c.requires.accepted.0.size
 
 pub loop-l-init : goal.loop-l-init
-loop-l-init c = (c.requires.accepted.1, drives_none (Searching 65536 c.args.b))
+loop-l-init g c = (c.requires.accepted.1, drives_none (Searching g.W.Word.limit c.args.b))
 
 pub value-v-requires : goal.value-v-requires
-value-v-requires c = link_in c.links_from-from.ensures c.requires.accepted.0 c.loop-l.invariant.0 (λ z. omega arith)
+value-v-requires g c = link_in c.links_from-from.ensures c.requires.accepted.0 c.loop-l.invariant.0 (λ z. omega arith)
 
 pub next-l-requires : goal.next-l-requires
-next-l-requires c = link_in c.links_from-from.ensures c.requires.accepted.0 c.loop-l.invariant.0 (λ z. omega arith)
+next-l-requires g c = link_in c.links_from-from.ensures c.requires.accepted.0 c.loop-l.invariant.0 (λ z. omega arith)
 
 pub include-t-requires : goal.include-t-requires
-include-t-requires c = turn_next (Searching 65536 c.args.b) (λ l. l) (λ x. x ∷ []) (λ x xs. refl) c.loop-l.invariant.1 (chain_turn c.args.graph.now c.loop-l.invariant.0 (λ z. omega arith) (value_of_lem c.links_from-from.ensures c.loop-l.l c.value-v.ensures (omega arith)) refl) c.requires.follows
+include-t-requires g c = turn_next (Searching g.W.Word.limit c.args.b) (λ l. l) (λ x. x ∷ []) (λ x xs. refl) c.loop-l.invariant.1 (chain_turn (g.W.Word.numbers c.args.graph.now) c.loop-l.invariant.0 (λ z. omega arith) (value_of_lem c.links_from-from.ensures c.loop-l.l c.value-v.ensures (omega arith)) refl) c.requires.follows
 
 pub loop-l-smaller : goal.loop-l-smaller
-loop-l-smaller c = rw (next_of_lem c.links_from-from.ensures c.loop-l.l c.next-l.ensures (omega arith)) (chain_falls c.args.graph.now c.loop-l.invariant.0 (λ z. omega arith))
+loop-l-smaller g c = rw (next_of_lem c.links_from-from.ensures c.loop-l.l c.next-l.ensures (omega arith)) (chain_falls (g.W.Word.numbers c.args.graph.now) c.loop-l.invariant.0 (λ z. omega arith))
 
 pub loop-l-preserved : goal.loop-l-preserved
-loop-l-preserved c =
+loop-l-preserved g c =
     let c-args = c.args in (
-      rw (next_of_lem c.links_from-from.ensures c.loop-l.l c.next-l.ensures (omega arith)) (once_next c-args.graph.now c.loop-l.invariant.0 (λ z. omega arith)),
-      turn_more (Searching 65536 c-args.b) (λ l. l) (λ x. x ∷ []) (λ x xs. refl) c.loop-l.invariant.1 (chain_turn c-args.graph.now c.loop-l.invariant.0 (λ z. omega arith) (value_of_lem c.links_from-from.ensures c.loop-l.l c.value-v.ensures (omega arith)) (next_of_lem c.links_from-from.ensures c.loop-l.l c.next-l.ensures (omega arith))) c.include-t.ensures,
+      rw (next_of_lem c.links_from-from.ensures c.loop-l.l c.next-l.ensures (omega arith)) (once_next (g.W.Word.numbers c-args.graph.now) c.loop-l.invariant.0 (λ z. omega arith)),
+      turn_more (Searching g.W.Word.limit c-args.b) (λ l. l) (λ x. x ∷ []) (λ x xs. refl) c.loop-l.invariant.1 (chain_turn (g.W.Word.numbers c-args.graph.now) c.loop-l.invariant.0 (λ z. omega arith) (value_of_lem c.links_from-from.ensures c.loop-l.l c.value-v.ensures (omega arith)) (next_of_lem c.links_from-from.ensures c.loop-l.l c.next-l.ensures (omega arith))) c.include-t.ensures,
     )
 
 pub returns : goal.returns
-returns c = let e : c.loop-l.l ≡ 0 = omega arith in turn_done (Searching 65536 c.args.b) (λ l. l) (λ x. x ∷ []) (λ x xs. refl) c.loop-l.invariant.1 (rw e (chain_end c.args.graph.now)) refl
+returns g c = let e : c.loop-l.l ≡ 0 = omega arith in turn_done (Searching g.W.Word.limit c.args.b) (λ l. l) (λ x. x ∷ []) (λ x xs. refl) c.loop-l.invariant.1 (rw e (chain_end (g.W.Word.numbers c.args.graph.now))) refl

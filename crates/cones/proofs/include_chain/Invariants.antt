@@ -6,7 +6,7 @@ use Rattle.cones.specs.Finding.{Searching}
 use Rattle.cones.proofs.include_chain.Given as goal
 
 abbrev pub invariant-loop-l : goal.invariant-loop-l
-invariant-loop-l l = MeetsOnce l.graph l.l × Drives (Searching 65536 l.b) l.b.states l.initial.work l.count (chain l.graph l.first) l.work l.t (chain l.graph l.l)
+invariant-loop-l g l = MeetsOnce (g.W.Word.numbers l.graph) l.l × Drives (Searching g.W.Word.limit l.b) l.b.states (g.W.Word.numbers l.initial.work) l.count (chain (g.W.Word.numbers l.graph) l.first) (g.W.Word.numbers l.work) l.t (chain (g.W.Word.numbers l.graph) l.l)
 
 abbrev pub decreases-loop-l : goal.decreases-loop-l
-decreases-loop-l l = length (chain l.graph l.l)
+decreases-loop-l g l = length (chain (g.W.Word.numbers l.graph) l.l)

@@ -7,7 +7,7 @@ use Rattle.theory.specs.Edges.{body_cone}
 use Rattle.cones.proofs.refuse.Given as goal
 
 abbrev pub invariant-loop-n : goal.invariant-loop-n
-invariant-loop-n l = (l.n ≤ l.b.nodes) × ((k : ℕ) → k < l.n → body_cone (theory_of l.graph) k && absorbed ((theory_of l.graph).kind k) ≡ false)
+invariant-loop-n g l = (l.n ≤ l.b.nodes) × ((k : ℕ) → k < l.n → body_cone (theory_of (g.W.Word.numbers l.graph)) k && absorbed ((theory_of (g.W.Word.numbers l.graph)).kind k) ≡ false)
 
 abbrev pub decreases-loop-n : goal.decreases-loop-n
-decreases-loop-n l = l.b.nodes - l.n
+decreases-loop-n g l = l.b.nodes - l.n

@@ -7,23 +7,23 @@ use Rattle.cones.proofs.refused_at.Goals as goal
 
 pub overflow_add-b : goal.overflow_add-b
 unfolding theory_of
-overflow_add-b c = let f = c.requires.accepted.1 in let l = f.laid in omega arith
+overflow_add-b g c = let f = c.requires.accepted.1 in let l = f.laid in omega arith
 
 pub overflow_add-b-2 : goal.overflow_add-b-2
 unfolding theory_of
-overflow_add-b-2 c = let f = c.requires.accepted.1 in let l = f.laid in omega arith
+overflow_add-b-2 g c = let f = c.requires.accepted.1 in let l = f.laid in omega arith
 
 pub at-requires : goal.at-requires
 unfolding theory_of
-at-requires c = let f = c.requires.accepted.1 in let l = f.laid in omega arith
+at-requires g c = let f = c.requires.accepted.1 in let l = f.laid in omega arith
 
 pub returns-then-at-eq0 : goal.returns-then-at-eq0
-returns-then-at-eq0 c = refused_out c.requires.found c.requires.accepted.2 (sym c.at.ensures.0 ∙ c.if-at-eq0.true)
+returns-then-at-eq0 g c = refused_out c.requires.found c.requires.accepted.2 (sym c.at.ensures.0 ∙ c.if-at-eq0.true)
 
 pub kind-requires : goal.kind-requires
 unfolding theory_of
-kind-requires c = record { size = c.requires.accepted.0.size; below = c.requires.accepted.2 }
+kind-requires g c = record { size = c.requires.accepted.0.size; below = c.requires.accepted.2 }
 
 pub returns : goal.returns
 unfolding theory_of
-returns c = refused_in c.requires.found c.requires.accepted.2 (λ z. c.if-at-eq0.false (c.at.ensures.0 ∙ z)) (the_kind c.args.graph.now c.args.n ∙ ap kind_of (sym c.kind.ensures)) (rw c.kind.ensures (c.requires.accepted.0.kind_low c.args.n c.requires.accepted.2))
+returns g c = refused_in c.requires.found c.requires.accepted.2 (λ z. c.if-at-eq0.false (c.at.ensures.0 ∙ z)) (the_kind (g.W.Word.numbers c.args.graph.now) c.args.n ∙ ap kind_of (sym c.kind.ensures)) (rw c.kind.ensures (c.requires.accepted.0.kind_low c.args.n c.requires.accepted.2))

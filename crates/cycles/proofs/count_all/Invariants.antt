@@ -7,7 +7,7 @@ use Rattle.cycles.specs.Held.{Counting}
 use Rattle.cycles.proofs.count_all.Given as goal
 
 abbrev pub invariant-loop-p : goal.invariant-loop-p
-invariant-loop-p l = (length l.work ≡ length l.initial.work) × (l.p ≤ (theory_of l.graph).producers) × Counting 65536 (theory_of l.graph) l.b l.work l.p []
+invariant-loop-p g l = (length (g.W.Word.numbers l.work) ≡ length (g.W.Word.numbers l.initial.work)) × (l.p ≤ (theory_of (g.W.Word.numbers l.graph)).producers) × Counting g.W.Word.limit (theory_of (g.W.Word.numbers l.graph)) l.b (g.W.Word.numbers l.work) l.p []
 
 abbrev pub decreases-loop-p : goal.decreases-loop-p
-decreases-loop-p l = (theory_of l.graph).producers - l.p
+decreases-loop-p g l = (theory_of (g.W.Word.numbers l.graph)).producers - l.p

@@ -7,7 +7,7 @@ use Rattle.cycles.specs.Held.{Counting}
 use Rattle.cycles.proofs.count_heads.Given as goal
 
 abbrev pub invariant-loop-l : goal.invariant-loop-l
-invariant-loop-l l = (length l.work ≡ length l.initial.work) × MeetsOnce l.graph l.l × Counting 65536 (theory_of l.graph) l.b l.work (l.p + 1) (chain l.graph l.l)
+invariant-loop-l g l = (length (g.W.Word.numbers l.work) ≡ length (g.W.Word.numbers l.initial.work)) × MeetsOnce (g.W.Word.numbers l.graph) l.l × Counting g.W.Word.limit (theory_of (g.W.Word.numbers l.graph)) l.b (g.W.Word.numbers l.work) (l.p + 1) (chain (g.W.Word.numbers l.graph) l.l)
 
 abbrev pub decreases-loop-l : goal.decreases-loop-l
-decreases-loop-l l = length (chain l.graph l.l)
+decreases-loop-l g l = length (chain (g.W.Word.numbers l.graph) l.l)

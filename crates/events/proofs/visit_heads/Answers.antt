@@ -8,28 +8,28 @@ use Rattle.events.specs.Held.{Held}
 use Rattle.events.proofs.visit_heads.Goals as goal
 
 pub links_from-from-requires : goal.links_from-from-requires
-links_from-from-requires c = c.requires.accepted.0.size
+links_from-from-requires g c = c.requires.accepted.0.size
 
 pub first_head-l-requires : goal.first_head-l-requires
-first_head-l-requires c = record { size = c.requires.accepted.0.size; below = c.requires.accepted.1 }
+first_head-l-requires g c = record { size = c.requires.accepted.0.size; below = c.requires.accepted.1 }
 
 pub loop-l-init : goal.loop-l-init
-loop-l-init c = (rw c.first_head-l.ensures (c.requires.accepted.0.head_chain c.args.p c.requires.accepted.1), rw (c.first_head-l.ensures, ← the_heads c.args.graph.now c.args.p) (drives_none (Held 65536 c.args.b)))
+loop-l-init g c = (rw c.first_head-l.ensures (c.requires.accepted.0.head_chain c.args.p c.requires.accepted.1), rw (c.first_head-l.ensures, ← the_heads (g.W.Word.numbers c.args.graph.now) c.args.p) (drives_none (Held g.W.Word.limit c.args.b)))
 
 pub value-v-requires : goal.value-v-requires
-value-v-requires c = link_in c.links_from-from.ensures c.requires.accepted.0 c.loop-l.invariant.0 (omega arith)
+value-v-requires g c = link_in c.links_from-from.ensures c.requires.accepted.0 c.loop-l.invariant.0 (omega arith)
 
 pub next-l-requires : goal.next-l-requires
-next-l-requires c = link_in c.links_from-from.ensures c.requires.accepted.0 c.loop-l.invariant.0 (omega arith)
+next-l-requires g c = link_in c.links_from-from.ensures c.requires.accepted.0 c.loop-l.invariant.0 (omega arith)
 
 pub settle-t-requires : goal.settle-t-requires
-settle-t-requires c = turn_next (Held 65536 c.args.b) (λ l. l) (λ x. x ∷ []) (λ x l. refl) c.loop-l.invariant.1 (chain_turn c.args.graph.now c.loop-l.invariant.0 (omega arith) (value_of_lem c.links_from-from.ensures c.loop-l.l c.value-v.ensures (omega arith)) refl) c.requires.follows
+settle-t-requires g c = turn_next (Held g.W.Word.limit c.args.b) (λ l. l) (λ x. x ∷ []) (λ x l. refl) c.loop-l.invariant.1 (chain_turn (g.W.Word.numbers c.args.graph.now) c.loop-l.invariant.0 (omega arith) (value_of_lem c.links_from-from.ensures c.loop-l.l c.value-v.ensures (omega arith)) refl) c.requires.follows
 
 pub loop-l-smaller : goal.loop-l-smaller
-loop-l-smaller c = rw (next_of_lem c.links_from-from.ensures c.loop-l.l c.next-l.ensures (omega arith)) (chain_falls c.args.graph.now c.loop-l.invariant.0 (omega arith))
+loop-l-smaller g c = rw (next_of_lem c.links_from-from.ensures c.loop-l.l c.next-l.ensures (omega arith)) (chain_falls (g.W.Word.numbers c.args.graph.now) c.loop-l.invariant.0 (omega arith))
 
 pub loop-l-preserved : goal.loop-l-preserved
-loop-l-preserved c = rw (next_of_lem c.links_from-from.ensures c.loop-l.l c.next-l.ensures (omega arith)) (once_next c.args.graph.now c.loop-l.invariant.0 (omega arith), turn_more (Held 65536 c.args.b) (λ l. l) (λ x. x ∷ []) (λ x l. refl) c.loop-l.invariant.1 (chain_turn c.args.graph.now c.loop-l.invariant.0 (omega arith) (value_of_lem c.links_from-from.ensures c.loop-l.l c.value-v.ensures (omega arith)) refl) c.settle-t.ensures)
+loop-l-preserved g c = rw (next_of_lem c.links_from-from.ensures c.loop-l.l c.next-l.ensures (omega arith)) (once_next (g.W.Word.numbers c.args.graph.now) c.loop-l.invariant.0 (omega arith), turn_more (Held g.W.Word.limit c.args.b) (λ l. l) (λ x. x ∷ []) (λ x l. refl) c.loop-l.invariant.1 (chain_turn (g.W.Word.numbers c.args.graph.now) c.loop-l.invariant.0 (omega arith) (value_of_lem c.links_from-from.ensures c.loop-l.l c.value-v.ensures (omega arith)) refl) c.settle-t.ensures)
 
 pub returns : goal.returns
-returns c = let z : c.loop-l.l ≡ 0 = omega arith in rw (z, chain_end c.args.graph.now) at c.loop-l.invariant.1
+returns g c = let z : c.loop-l.l ≡ 0 = omega arith in rw (z, chain_end (g.W.Word.numbers c.args.graph.now)) at c.loop-l.invariant.1

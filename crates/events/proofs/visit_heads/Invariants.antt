@@ -6,7 +6,7 @@ use Rattle.events.specs.Held.{Held}
 use Rattle.events.proofs.visit_heads.Given as goal
 
 abbrev pub invariant-loop-l : goal.invariant-loop-l
-invariant-loop-l l = MeetsOnce l.graph l.l × Drives (Held 65536 l.b) l.b.states l.initial.work l.tail ((theory_of l.graph).heads l.p) l.work l.t (chain l.graph l.l)
+invariant-loop-l g l = MeetsOnce (g.W.Word.numbers l.graph) l.l × Drives (Held g.W.Word.limit l.b) l.b.states (g.W.Word.numbers l.initial.work) l.tail ((theory_of (g.W.Word.numbers l.graph)).heads l.p) (g.W.Word.numbers l.work) l.t (chain (g.W.Word.numbers l.graph) l.l)
 
 abbrev pub decreases-loop-l : goal.decreases-loop-l
-decreases-loop-l l = length (chain l.graph l.l)
+decreases-loop-l g l = length (chain (g.W.Word.numbers l.graph) l.l)

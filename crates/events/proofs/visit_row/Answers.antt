@@ -2,13 +2,13 @@ use native.Mathlib.Omega.{arith}
 use Rattle.events.proofs.visit_row.Goals as goal
 
 pub row_start-from-requires : goal.row_start-from-requires
-row_start-from-requires c = let s = c.requires.spanned in let a = s.row in let e = s.ends in let r = s.rises in let g = s.long in (omega arith, omega arith)
+row_start-from-requires g c = let s = c.requires.spanned in let a = s.row in let e = s.ends in let r = s.rises in let g = s.long in (omega arith, omega arith)
 
 pub row_start-to-requires : goal.row_start-to-requires
-row_start-to-requires c = let s = c.requires.spanned in let a = s.row in let e = s.ends in let r = s.rises in let g = s.long in (omega arith, omega arith)
+row_start-to-requires g c = let s = c.requires.spanned in let a = s.row in let e = s.ends in let r = s.rises in let g = s.long in (omega arith, omega arith)
 
 pub visit_nodes-requires : goal.visit_nodes-requires
-visit_nodes-requires c = let s = c.requires.spanned in rw (c.row_start-from.ensures, c.row_start-to.ensures) record { from_le_to = (s.rises, s.ends); follows = c.requires.follows }
+visit_nodes-requires g c = let s = c.requires.spanned in rw (c.row_start-from.ensures, c.row_start-to.ensures) record { from_le_to = (s.rises, s.ends); follows = c.requires.follows }
 
 pub returns : goal.returns
-returns c = rw (c.row_start-from.ensures, c.row_start-to.ensures) at c.visit_nodes.ensures
+returns g c = rw (c.row_start-from.ensures, c.row_start-to.ensures) at c.visit_nodes.ensures

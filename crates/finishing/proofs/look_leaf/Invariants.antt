@@ -6,7 +6,7 @@ use Rattle.finishing.specs.Walking.{OnTop, Passed}
 use Rattle.finishing.proofs.look_leaf.Given as goal
 
 abbrev pub invariant-loop-cursor : goal.invariant-loop-cursor
-invariant-loop-cursor l = (l.work ≡ l.initial.work) × ((top done : ℕ) → OnTop l.graph l.b l.initial.work l.v top done → Passed l.graph l.b l.initial.work l.v l.cursor top done)
+invariant-loop-cursor g l = ((g.W.Word.numbers l.work) ≡ (g.W.Word.numbers l.initial.work)) × ((top done : ℕ) → OnTop (g.W.Word.numbers l.graph) l.b (g.W.Word.numbers l.initial.work) l.v top done → Passed (g.W.Word.numbers l.graph) l.b (g.W.Word.numbers l.initial.work) l.v l.cursor top done)
 
 abbrev pub decreases-loop-cursor : goal.decreases-loop-cursor
-decreases-loop-cursor l = length (chain l.graph l.cursor)
+decreases-loop-cursor g l = length (chain (g.W.Word.numbers l.graph) l.cursor)

@@ -1,4 +1,5 @@
 use native.Mathlib.Omega.{arith}
+use Rattle.words.proofs.NumberLaws.{numbers_length}
 use Rattle.finishing.proofs.PlaceLaws.{vertices_few}
 use Rattle.finishing.proofs.StepLaws.{top_place}
 use Rattle.finishing.proofs.DescentLaws.{step_onward}
@@ -6,31 +7,40 @@ use Rattle.finishing.proofs.PassedLaws.{as_top, done_finishing, done_step, verte
 use Rattle.finishing.proofs.step.Goals as goal
 
 pub overflow_add-b : goal.overflow_add-b
-overflow_add-b c = let p = top_place c.requires.1 c.requires.2 in omega arith
+overflow_add-b g c =
+    let holds = g.met.W.Word.holds in
+    let long = numbers_length g.met.W.Word.each c.args.work.now in
+    let p = top_place c.requires.1 c.requires.2 in omega arith
 
 pub at-v-requires : goal.at-v-requires
-at-v-requires c = top_place c.requires.1 c.requires.2
+at-v-requires g c = top_place c.requires.1 c.requires.2
 
 pub look-entry-requires : goal.look-entry-requires
-look-entry-requires c = (c.requires.0, (c.args.top, c.args.done, as_top c.requires.1 c.requires.2 c.at-v.ensures.0))
+look-entry-requires g c = (c.requires.0, (c.args.top, c.args.done, as_top c.requires.1 c.requires.2 c.at-v.ensures.0))
 
 pub finish-requires : goal.finish-requires
-finish-requires c = done_finishing (as_top c.requires.1 c.requires.2 c.at-v.ensures.0) (rw c.in-Done.is at c.look-entry.ensures) c.requires.0 (omega arith)
+finish-requires g c =
+    let holds = g.met.W.Word.holds in
+    let long = numbers_length g.met.W.Word.each c.args.work.now in
+    done_finishing (as_top c.requires.1 c.requires.2 c.at-v.ensures.0) (rw c.in-Done.is at c.look-entry.ensures) c.requires.0 (omega arith)
 
 pub meet-requires : goal.meet-requires
-meet-requires c = (c.requires.0, vertex_meeting (as_top c.requires.1 c.requires.2 c.at-v.ensures.0) c.requires.0 (rw c.in-Vertex.is at c.look-entry.ensures))
+meet-requires g c = (c.requires.0, vertex_meeting (as_top c.requires.1 c.requires.2 c.at-v.ensures.0) c.requires.0 (rw c.in-Vertex.is at c.look-entry.ensures))
 
 pub overflow_add-top : goal.overflow_add-top
-overflow_add-top c = let m = (vertex_meeting (as_top c.requires.1 c.requires.2 c.at-v.ensures.0) c.requires.0 (rw c.in-Vertex.is at c.look-entry.ensures)).room in let f = vertices_few c.requires.1.ready.based c.requires.0 in omega arith
+overflow_add-top g c =
+    let holds = g.met.W.Word.holds in
+    let long = numbers_length g.met.W.Word.each c.args.work.now in
+    let m = (vertex_meeting (as_top c.requires.1 c.requires.2 c.at-v.ensures.0) c.requires.0 (rw c.in-Vertex.is at c.look-entry.ensures)).room in let f = vertices_few c.requires.1.ready.based c.requires.0 in omega arith
 
 pub through-requires : goal.through-requires
-through-requires c =
+through-requires g c =
     let o = as_top c.requires.1 c.requires.2 c.at-v.ensures.0 in
     let f = rw c.in-Vertex.is at c.look-entry.ensures in
     (c.requires.0, rw c.meet.ensures (vertex_top o c.requires.0 f), rw c.meet.ensures (vertex_first o c.requires.0 f))
 
 pub returns-in-Done : goal.returns-in-Done
-returns-in-Done c = rw (c.finish.ensures.0, c.finish.ensures.1, c.finish.ensures.2) (done_step (as_top c.requires.1 c.requires.2 c.at-v.ensures.0) (rw c.in-Done.is at c.look-entry.ensures))
+returns-in-Done g c = rw (c.finish.ensures.0, c.finish.ensures.1, c.finish.ensures.2) (done_step (as_top c.requires.1 c.requires.2 c.at-v.ensures.0) (rw c.in-Done.is at c.look-entry.ensures))
 
 pub returns-in-Vertex : goal.returns-in-Vertex
-returns-in-Vertex c = step_onward (vertex_step (as_top c.requires.1 c.requires.2 c.at-v.ensures.0) c.requires.0 (rw c.in-Vertex.is at c.look-entry.ensures)) (rw c.meet.ensures at c.through.ensures)
+returns-in-Vertex g c = step_onward (vertex_step (as_top c.requires.1 c.requires.2 c.at-v.ensures.0) c.requires.0 (rw c.in-Vertex.is at c.look-entry.ensures)) (rw c.meet.ensures at c.through.ensures)

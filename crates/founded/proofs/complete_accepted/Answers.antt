@@ -1,33 +1,32 @@
-use mathlib.Core.Path.{refl, ◌∙◌}
+use mathlib.Core.Path.{refl, sym, ◌∙◌}
 use native.Mathlib.Omega.{arith}
-use Rattle.theory.specs.Accepted.{edition1}
 use Rattle.refusals.proofs.AcceptedLaws.{accepted}
-use Rattle.area.proofs.LayoutLaws.{edition1_roomy}
+use Rattle.words.proofs.NumberLaws.{numbers_length}
 use Rattle.preparation.specs.Flags.{Listed}
 use Rattle.founded.proofs.OutcomeLaws.{absorbed_refused, done}
 use Rattle.founded.proofs.CallLaws.{not_zero, completes, mask_fits, output_fits, work_fits}
 use Rattle.founded.proofs.complete_accepted.Goals as goal
 
 pub bases_of-b-requires : goal.bases_of-b-requires
-bases_of-b-requires c = let a = accepted edition1 c.args.graph.now c.requires.0 in (a, edition1_roomy a c.requires.2)
+bases_of-b-requires g c = let a = accepted g.W.Word.edition (g.W.Word.numbers c.args.graph.now) c.requires.0 in (a, rw (← numbers_length g.met.W.Word.each c.args.work.now, c.requires.2) (g.met.W.Area.roomy (g.W.Word.numbers c.args.graph.now) a))
 
 pub missing-marks-requires : goal.missing-marks-requires
-missing-marks-requires c = (accepted edition1 c.args.graph.now c.requires.0, c.bases_of-b.ensures)
+missing-marks-requires g c = (accepted g.W.Word.edition (g.W.Word.numbers c.args.graph.now) c.requires.0, rw (numbers_length g.met.W.Word.each c.args.work.now) c.bases_of-b.ensures)
 
 pub hand_out-requires : goal.hand_out-requires
 unfolding Listed
-hand_out-requires c =
+hand_out-requires g c =
     let k = rw c.in-Done.is at c.missing-marks.ensures in
-    (omega (arith, k.size, c.bases_of-b.ensures.laid, c.bases_of-b.ensures.ends), mask_fits _ _ (output_fits _ _ _ _ c.requires.1) ∙ rw c.bases_of-b.ensures.atoms)
+    (omega (arith, numbers_length g.met.W.Word.each c.args.work.now, k.size, c.bases_of-b.ensures.laid, c.bases_of-b.ensures.ends), mask_fits _ _ (output_fits _ _ _ _ c.requires.1) ∙ rw c.bases_of-b.ensures.atoms)
 
 pub returns-in-Done : goal.returns-in-Done
 unfolding Listed
-returns-in-Done c =
+returns-in-Done g c =
     let k = rw c.in-Done.is at c.missing-marks.ensures in
     completes
-    (done edition1 _ _ _ _ c.requires.0 c.requires.1 (work_fits edition1 c.args.graph.now _ c.requires.2) c.missing-marks.new.work c.hand_out.ensures.words_after c.bases_of-b.result.dependencies c.bases_of-b.ensures.atoms k.size k.none k.flags c.hand_out.ensures.output_after)
+    (done g.W.Word.edition _ _ _ _ c.requires.0 c.requires.1 (work_fits g.W.Word.edition (g.W.Word.numbers c.args.graph.now) _ c.requires.2) (g.W.Word.numbers c.missing-marks.new.work) c.hand_out.ensures.words_after c.bases_of-b.result.dependencies c.bases_of-b.ensures.atoms k.size k.none k.flags c.hand_out.ensures.output_after)
     (λ q. refl)
 
 pub returns-in-Absorbed : goal.returns-in-Absorbed
 unfolding Listed
-returns-in-Absorbed c = completes (absorbed_refused edition1 _ _ _ _ c.requires.0 c.requires.1 (work_fits edition1 c.args.graph.now _ c.requires.2) _ c.wipe.ensures (rw c.in-Absorbed.is at c.missing-marks.ensures)) (not_zero refl)
+returns-in-Absorbed g c = completes (absorbed_refused g.W.Word.edition _ _ _ _ c.requires.0 c.requires.1 (work_fits g.W.Word.edition (g.W.Word.numbers c.args.graph.now) _ c.requires.2) _ c.wipe.ensures (rw c.in-Absorbed.is at c.missing-marks.ensures)) (not_zero refl)

@@ -3,4 +3,4 @@ use Rattle.graph.proofs.value_at.Goals as goal
 
 pub returns : goal.returns
 unfolding value_in
-returns c = c.at.ensures.0
+returns g c = c.at.ensures.0

@@ -7,7 +7,7 @@ use Rattle.initialization.specs.Start.{At}
 use Rattle.initialization.proofs.activate_facts.Given as goal
 
 abbrev pub invariant-loop-i : goal.invariant-loop-i
-invariant-loop-i l = (l.i ≤ l.facts) × Drives (At l.b) l.b.dependencies l.initial.work 0 (flat_map (theory_of l.graph).heads (fact_rows l.b l.initial.work l.facts)) l.work l.t (flat_map (theory_of l.graph).heads (fact_rows l.b l.initial.work l.i))
+invariant-loop-i g l = (l.i ≤ l.facts) × Drives (At l.b) l.b.dependencies (g.W.Word.numbers l.initial.work) 0 (flat_map (theory_of (g.W.Word.numbers l.graph)).heads (fact_rows l.b (g.W.Word.numbers l.initial.work) l.facts)) (g.W.Word.numbers l.work) l.t (flat_map (theory_of (g.W.Word.numbers l.graph)).heads (fact_rows l.b (g.W.Word.numbers l.initial.work) l.i))
 
 abbrev pub decreases-loop-i : goal.decreases-loop-i
-decreases-loop-i l = l.i
+decreases-loop-i g l = l.i

@@ -8,64 +8,64 @@ use Rattle.initialization.proofs.InitialLaws.{initial_cut, initial_uncut, cone_n
 use Rattle.initialization.proofs.read.Goals as goal
 
 pub returns-then-bit : goal.returns-then-bit
-returns-then-bit c = initial_cut c.args.graph.now (bit_at c.args.never.now) (bit_at c.args.atom_never.now) c.args.n (sym c.bit.ensures ∙ c.if-bit.true)
+returns-then-bit g c = initial_cut (g.W.Word.numbers c.args.graph.now) (bit_at c.args.never.now) (bit_at c.args.atom_never.now) c.args.n (sym c.bit.ensures ∙ c.if-bit.true)
 
 pub kind-kind-requires : goal.kind-kind-requires
-kind-kind-requires c = cone_node c.requires.accepted.0 c.args.n c.requires.is
+kind-kind-requires g c = cone_node c.requires.accepted.0 c.args.n c.requires.is
 
 pub starts_true-requires : goal.starts_true-requires
-starts_true-requires c = kind_in c.requires.accepted.0 c.args.n c.requires.is c.kind-kind.ensures
+starts_true-requires g c = kind_in c.requires.accepted.0 c.args.n c.requires.is c.kind-kind.ensures
 
 pub returns-then-starts_true : goal.returns-then-starts_true
 unfolding initial_of theory_of
-returns-then-starts_true c =
+returns-then-starts_true g c =
     initial_uncut c.requires.accepted.0 c.args.n c.requires.is (bit_at c.args.never.now) (bit_at c.args.atom_never.now) (sym c.bit.ensures ∙ c.if-bit.false) c.kind-kind.ensures
     (sym c.starts_true.ensures ∙ c.if-starts_true.true) refl refl refl
 
 pub takes_operand-requires : goal.takes_operand-requires
-takes_operand-requires c = kind_in c.requires.accepted.0 c.args.n c.requires.is c.kind-kind.ensures
+takes_operand-requires g c = kind_in c.requires.accepted.0 c.args.n c.requires.is c.kind-kind.ensures
 
 pub operand-requires : goal.operand-requires
-operand-requires c = cone_node c.requires.accepted.0 c.args.n c.requires.is
+operand-requires g c = cone_node c.requires.accepted.0 c.args.n c.requires.is
 
 pub read_atom-requires : goal.read_atom-requires
-read_atom-requires c = let m = c.requires.accepted.1 in let h = operand_in c.requires.accepted.0 c.args.n c.requires.is c.kind-kind.ensures (sym c.takes_operand.ensures ∙ c.if-takes_operand.true) c.operand.ensures in (m.laid, omega arith, omega arith)
+read_atom-requires g c = let m = c.requires.accepted.1 in let h = operand_in c.requires.accepted.0 c.args.n c.requires.is c.kind-kind.ensures (sym c.takes_operand.ensures ∙ c.if-takes_operand.true) c.operand.ensures in (m.laid, omega arith, omega arith)
 
 pub returns-then-takes_operand : goal.returns-then-takes_operand
 unfolding initial_of theory_of
-returns-then-takes_operand c =
-    rw c.operand.ensures at (c.read_atom.ensures (cyclic (theory_of c.args.graph.now)) (length ((theory_of c.args.graph.now).leaves c.args.n)) c.requires.accepted.2)
+returns-then-takes_operand g c =
+    rw c.operand.ensures at (c.read_atom.ensures (cyclic (theory_of (g.W.Word.numbers c.args.graph.now))) (length ((theory_of (g.W.Word.numbers c.args.graph.now)).leaves c.args.n)) c.requires.accepted.2)
     ∙ initial_uncut c.requires.accepted.0 c.args.n c.requires.is (bit_at c.args.never.now) (bit_at c.args.atom_never.now) (sym c.bit.ensures ∙ c.if-bit.false) c.kind-kind.ensures
     (sym c.starts_true.ensures ∙ c.if-starts_true.false) (sym c.takes_operand.ensures ∙ c.if-takes_operand.true) refl refl
 
 pub waits_for_one-requires : goal.waits_for_one-requires
-waits_for_one-requires c = kind_in c.requires.accepted.0 c.args.n c.requires.is c.kind-kind.ensures
+waits_for_one-requires g c = kind_in c.requires.accepted.0 c.args.n c.requires.is c.kind-kind.ensures
 
 pub returns-then-waits_for_one : goal.returns-then-waits_for_one
 unfolding initial_of theory_of
-returns-then-waits_for_one c =
+returns-then-waits_for_one g c =
     initial_uncut c.requires.accepted.0 c.args.n c.requires.is (bit_at c.args.never.now) (bit_at c.args.atom_never.now) (sym c.bit.ensures ∙ c.if-bit.false) c.kind-kind.ensures
     (sym c.starts_true.ensures ∙ c.if-starts_true.false) (sym c.takes_operand.ensures ∙ c.if-takes_operand.false) (sym c.waits_for_one.ensures ∙ c.if-waits_for_one.true) refl
 
 pub waits_for_all-requires : goal.waits_for_all-requires
-waits_for_all-requires c = kind_in c.requires.accepted.0 c.args.n c.requires.is c.kind-kind.ensures
+waits_for_all-requires g c = kind_in c.requires.accepted.0 c.args.n c.requires.is c.kind-kind.ensures
 
 pub first_leaf-requires : goal.first_leaf-requires
-first_leaf-requires c = cone_node c.requires.accepted.0 c.args.n c.requires.is
+first_leaf-requires g c = cone_node c.requires.accepted.0 c.args.n c.requires.is
 
 pub entries-requires : goal.entries-requires
 unfolding theory_of
-entries-requires c = (c.requires.accepted.0, rw c.first_leaf.ensures (c.requires.accepted.0.leaf_chain c.args.n (cone_node c.requires.accepted.0 c.args.n c.requires.is).below))
+entries-requires g c = (c.requires.accepted.0, rw c.first_leaf.ensures (c.requires.accepted.0.leaf_chain c.args.n (cone_node c.requires.accepted.0 c.args.n c.requires.is).below))
 
 pub returns-then-waits_for_all : goal.returns-then-waits_for_all
 unfolding initial_of theory_of
-returns-then-waits_for_all c =
+returns-then-waits_for_all g c =
     rw (c.entries.ensures, c.first_leaf.ensures)
     (initial_uncut c.requires.accepted.0 c.args.n c.requires.is (bit_at c.args.never.now) (bit_at c.args.atom_never.now) (sym c.bit.ensures ∙ c.if-bit.false) c.kind-kind.ensures
     (sym c.starts_true.ensures ∙ c.if-starts_true.false) (sym c.takes_operand.ensures ∙ c.if-takes_operand.false) (sym c.waits_for_one.ensures ∙ c.if-waits_for_one.false) (sym c.waits_for_all.ensures ∙ c.if-waits_for_all.true))
 
 pub returns : goal.returns
 unfolding initial_of theory_of
-returns c =
+returns g c =
     initial_uncut c.requires.accepted.0 c.args.n c.requires.is (bit_at c.args.never.now) (bit_at c.args.atom_never.now) (sym c.bit.ensures ∙ c.if-bit.false) c.kind-kind.ensures
     (sym c.starts_true.ensures ∙ c.if-starts_true.false) (sym c.takes_operand.ensures ∙ c.if-takes_operand.false) (sym c.waits_for_one.ensures ∙ c.if-waits_for_one.false) (sym c.waits_for_all.ensures ∙ c.if-waits_for_all.false)

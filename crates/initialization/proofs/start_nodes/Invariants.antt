@@ -7,7 +7,7 @@ use Rattle.initialization.specs.Start.{AtNodes}
 use Rattle.initialization.proofs.start_nodes.Given as goal
 
 abbrev pub invariant-loop-i : goal.invariant-loop-i
-invariant-loop-i l = (l.i ≤ l.nodes) × Drives (AtNodes l.graph (bit_at l.never) (bit_at l.atom_never) l.b) l.b.dependencies l.initial.work l.tail (as_vertices l.b (cone_nodes l.b l.initial.work l.nodes)) l.work l.t (as_vertices l.b (cone_nodes l.b l.initial.work l.i))
+invariant-loop-i g l = (l.i ≤ l.nodes) × Drives (AtNodes (g.W.Word.numbers l.graph) (bit_at l.never) (bit_at l.atom_never) l.b) l.b.dependencies (g.W.Word.numbers l.initial.work) l.tail (as_vertices l.b (cone_nodes l.b (g.W.Word.numbers l.initial.work) l.nodes)) (g.W.Word.numbers l.work) l.t (as_vertices l.b (cone_nodes l.b (g.W.Word.numbers l.initial.work) l.i))
 
 abbrev pub decreases-loop-i : goal.decreases-loop-i
-decreases-loop-i l = l.i
+decreases-loop-i g l = l.i

@@ -1,11 +1,6 @@
-use mathlib.Core.Path.{◌≡◌}
-use Prim.Native.Nat.{◌≤◌, ◌+◌, ◌-◌}
-use lib.ListN.{length}
+use Rattle.std.proofs.Common.{◌≡◌, ◌≤◌, ◌+◌, ◌-◌}
 use Rattle.mask.specs.Mask.{bits, flagged}
 use Rattle.mask.proofs.flag_word.Given as goal
 
 abbrev pub invariant-loop-i : goal.invariant-loop-i
-invariant-loop-i l = (l.from ≤ l.i) × (l.i ≤ l.from + 64) × (l.i ≤ length l.flags) × (l.word ≡ bits (flagged l.flags) l.i (l.from + 64 - l.i))
-
-abbrev pub decreases-loop-i : goal.decreases-loop-i
-decreases-loop-i l = l.i
+invariant-loop-i g l = (l.from ≤ l.i) × (l.word ≡ bits (flagged (g.W.Word.numbers l.flags)) l.i (l.from + 64 - l.i))

@@ -1,12 +1,6 @@
-use mathlib.Core.Path.{◌≡◌}
-use mathlib.Core.List.{◌++◌}
-use Prim.Native.Nat.{◌≤◌, ◌-◌}
-use lib.ListN.{length, drop}
+use Rattle.std.proofs.Common.{◌≡◌, ◌++◌, length, drop}
 use Rattle.mask.specs.Mask.{mask_of, flagged}
 use Rattle.mask.proofs.pack_flags.Given as goal
 
 abbrev pub invariant-loop-w : goal.invariant-loop-w
-invariant-loop-w l = (l.w ≤ length l.initial.mask) × (length l.mask ≡ length l.initial.mask) × (l.mask ≡ mask_of l.w (flagged l.flags) ++ drop l.w l.initial.mask)
-
-abbrev pub decreases-loop-w : goal.decreases-loop-w
-decreases-loop-w l = length l.initial.mask - l.w
+invariant-loop-w g l = l.mask ≡ mask_of l.w (flagged (g.W.Word.numbers l.flags)) ++ drop l.w l.initial.mask

@@ -3,7 +3,7 @@ use Rattle.preparation.proofs.StageLaws.{marked_staged}
 use Rattle.preparation.proofs.cyclic_atoms.Goals as goal
 
 pub mark-requires : goal.mark-requires
-mark-requires c = rw (sym c.requires.1.is) (c.requires)
+mark-requires g c = rw (sym c.requires.1.is) (c.requires)
 
 pub returns : goal.returns
-returns c = marked_staged _ _ _ _ c.mark.result (rw (sym c.requires.1.is) at c.mark.ensures)
+returns g c = marked_staged _ _ _ _ c.mark.result (rw (sym c.requires.1.is) at c.mark.ensures)

@@ -4,5 +4,5 @@ use Rattle.refusals.specs.Refusals.{answer_of}
 use Rattle.refusals.proofs.AcceptedLaws.{accepted}
 use Rattle.abi.proofs.length.founded_wide_work_words.Goals as goal
 
-pub words-requires : goal.words-requires
-words-requires c = accepted edition2 c.args.graph.now (sym c.check-checked.ensures ∙ ap answer_of c.in-Accepted.is)
+pub area_words-requires : goal.area_words-requires
+area_words-requires c = accepted edition2 c.args.graph.now (sym c.check-checked.ensures ∙ ap answer_of c.in-Accepted.is)

@@ -1,4 +1,3 @@
--- Written by tools/widen from crates/abi/proofs/founded_complete/Answers.antt: edit that one.
 use Prim.Native.Nat.{◌<◌}
 use native.Mathlib.Omega.{arith}
 use lib.ListN.{get_or}

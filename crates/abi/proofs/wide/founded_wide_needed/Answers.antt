@@ -1,4 +1,3 @@
--- Written by tools/widen from crates/abi/proofs/founded_needed/Answers.antt: edit that one.
 use Rattle.abi.proofs.CodeLaws.{needed_told, needed_placed}
 use Prim.Native.Nat.{◌<◌}
 use native.Mathlib.Omega.{arith}

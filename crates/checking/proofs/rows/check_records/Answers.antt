@@ -7,15 +7,15 @@ use Rattle.checking.proofs.rows.check_records.Goals as goal
 
 pub returns-then-n-nodes : goal.returns-then-n-nodes
 unfolding graph_rows first_refusal
-returns-then-n-nodes c = let ws = c.args.graph.now in rw (row_refuses _ 4 0 (get_or ws 2 0) c.bad_node-n.ensures (omega arith) (omega arith))
+returns-then-n-nodes g c = let ws = (g.W.Word.numbers c.args.graph.now) in rw (row_refuses _ 4 0 (get_or ws 2 0) c.bad_node-n.ensures (omega arith) (omega arith))
 
 pub returns-then-p-producers : goal.returns-then-p-producers
 unfolding graph_rows first_refusal
-returns-then-p-producers c = let ws = c.args.graph.now in rw (row_passes _ 4 0 (get_or ws 2 0) c.bad_node-n.ensures (omega arith) (omega arith), row_refuses _ 5 0 (get_or ws 3 0) c.bad_producer-p.ensures (omega arith) (omega arith))
+returns-then-p-producers g c = let ws = (g.W.Word.numbers c.args.graph.now) in rw (row_passes _ 4 0 (get_or ws 2 0) c.bad_node-n.ensures (omega arith) (omega arith), row_refuses _ 5 0 (get_or ws 3 0) c.bad_producer-p.ensures (omega arith) (omega arith))
 
 pub check_links-requires : goal.check_links-requires
-check_links-requires c = record { sized = c.requires; clear = (first_clear c.bad_node-n.ensures (omega arith), first_clear c.bad_producer-p.ensures (omega arith)) }
+check_links-requires g c = record { sized = c.requires; clear = (first_clear c.bad_node-n.ensures (omega arith), first_clear c.bad_producer-p.ensures (omega arith)) }
 
 pub returns : goal.returns
 unfolding graph_rows first_refusal
-returns c = let ws = c.args.graph.now in rw (row_passes _ 4 0 (get_or ws 2 0) c.bad_node-n.ensures (omega arith) (omega arith), row_passes _ 5 0 (get_or ws 3 0) c.bad_producer-p.ensures (omega arith) (omega arith)) c.check_links.ensures
+returns g c = let ws = (g.W.Word.numbers c.args.graph.now) in rw (row_passes _ 4 0 (get_or ws 2 0) c.bad_node-n.ensures (omega arith) (omega arith), row_passes _ 5 0 (get_or ws 3 0) c.bad_producer-p.ensures (omega arith) (omega arith)) c.check_links.ensures

@@ -5,16 +5,16 @@ use Rattle.graph.proofs.DecodeLaws.{next_of_lem, link_within}
 use Rattle.checking.proofs.rows.comes_back.Goals as goal
 
 pub loop-l-init : goal.loop-l-init
-loop-l-init c = toward_first c.requires.2 c.links-left.ensures
+loop-l-init g c = toward_first c.requires.2 c.links-left.ensures
 
 pub returns-then-left-eq0 : goal.returns-then-left-eq0
-returns-then-left-eq0 c = sym (toward_back c.loop-l.invariant c.loop-l-test.true c.if-left-eq0.true)
+returns-then-left-eq0 g c = sym (toward_back c.loop-l.invariant c.loop-l-test.true c.if-left-eq0.true)
 
 pub next-l-requires : goal.next-l-requires
-next-l-requires c = link_within c.links_from-from.ensures c.requires.0.size (omega arith) c.loop-l.invariant.low
+next-l-requires g c = link_within c.links_from-from.ensures c.requires.0.size (omega arith) c.loop-l.invariant.low
 
 pub loop-l-preserved : goal.loop-l-preserved
-loop-l-preserved c = toward_next c.loop-l.invariant c.loop-l-test.true (omega arith) (next_of_lem c.links_from-from.ensures c.loop-l.l c.next-l.ensures (omega arith)) (c.requires.1.next_low c.loop-l.l (omega arith) c.loop-l.invariant.low)
+loop-l-preserved g c = toward_next c.loop-l.invariant c.loop-l-test.true (omega arith) (next_of_lem c.links_from-from.ensures c.loop-l.l c.next-l.ensures (omega arith)) (c.requires.1.next_low c.loop-l.l (omega arith) c.loop-l.invariant.low)
 
 pub returns : goal.returns
-returns c = sym (toward_end c.loop-l.invariant c.loop-l-test.false)
+returns g c = sym (toward_end c.loop-l.invariant c.loop-l-test.false)

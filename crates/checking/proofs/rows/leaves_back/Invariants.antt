@@ -4,7 +4,7 @@ use Rattle.refusals.specs.Refusals.{leaves_back}
 use Rattle.checking.proofs.rows.leaves_back.Given as goal
 
 abbrev pub invariant-loop-n : goal.invariant-loop-n
-invariant-loop-n l = (l.n ≤ l.end) × Clear (leaves_back l.graph) 0 l.n
+invariant-loop-n g l = (l.n ≤ l.end) × Clear (leaves_back (g.W.Word.numbers l.graph)) 0 l.n
 
 abbrev pub decreases-loop-n : goal.decreases-loop-n
-decreases-loop-n l = l.end - l.n
+decreases-loop-n g l = l.end - l.n

@@ -1,39 +1,39 @@
 use native.Mathlib.Omega.{arith}
-use native.Mathlib.Nat.{le_trans}
 use Rattle.theory.specs.Words.{theory_of}
-use Rattle.theory.specs.Accepted.{edition1}
 use Rattle.theory.proofs.ChainLaws.{once_link, chain_falls, chain_few}
 use Rattle.checking.proofs.FollowLaws.{between_none, between_all, along_first, along_wrong, along_next, along_end, along_few}
 use Rattle.graph.proofs.DecodeLaws.{value_of_lem, next_of_lem, link_within}
 use Rattle.checking.proofs.rows.walk_heads.Goals as goal
 
 pub producers-init : goal.producers-init
-producers-init c = (omega arith, between_none)
+producers-init g c = (omega arith, between_none)
 
 pub loop-l-init : goal.loop-l-init
-loop-l-init c = rw c.first_head-l.ensures (along_first c.producers.invariant.1 (c.requires.chained.head_chain _ (omega arith)))
+loop-l-init g c = rw c.first_head-l.ensures (along_first c.producers.invariant.1 (c.requires.chained.head_chain _ (omega arith)))
 
 pub value-requires : goal.value-requires
-value-requires c = link_within c.links_from-from.ensures c.requires.sized.size (omega arith) (once_link _ c.loop-l.invariant.once)
+value-requires g c = link_within c.links_from-from.ensures c.requires.sized.size (omega arith) (once_link _ c.loop-l.invariant.once)
 
 pub overflow_add-entries : goal.overflow_add-entries
-overflow_add-entries c = omega (arith, along_few c.loop-l.invariant c.loop-l-test.true edition1.links (λ m. le_trans (chain_few _ m) c.requires.sized.links_few))
+overflow_add-entries g c =
+    let holds = g.met.W.Word.holds in
+    omega (arith, along_few c.loop-l.invariant c.loop-l-test.true 536870912 (λ m. omega (arith, chain_few (g.W.Word.numbers c.args.graph.now) m, c.requires.sized.links_few, holds)), c.requires.sized.producers_few, holds)
 
 pub next-l-requires : goal.next-l-requires
-next-l-requires c = link_within c.links_from-from.ensures c.requires.sized.size (omega arith) (once_link _ c.loop-l.invariant.once)
+next-l-requires g c = link_within c.links_from-from.ensures c.requires.sized.size (omega arith) (once_link _ c.loop-l.invariant.once)
 
 pub loop-l-smaller : goal.loop-l-smaller
-loop-l-smaller c = rw (next_of_lem c.links_from-from.ensures c.loop-l.l c.next-l.ensures (omega arith)) (chain_falls _ c.loop-l.invariant.once c.loop-l-test.true)
+loop-l-smaller g c = rw (next_of_lem c.links_from-from.ensures c.loop-l.l c.next-l.ensures (omega arith)) (chain_falls _ c.loop-l.invariant.once c.loop-l-test.true)
 
 pub loop-l-preserved : goal.loop-l-preserved
-loop-l-preserved c = rw (next_of_lem c.links_from-from.ensures c.loop-l.l c.next-l.ensures (omega arith)) (along_next c.loop-l.invariant c.loop-l-test.true (value_of_lem c.links_from-from.ensures c.loop-l.l c.value.ensures (omega arith)) (omega arith))
+loop-l-preserved g c = rw (next_of_lem c.links_from-from.ensures c.loop-l.l c.next-l.ensures (omega arith)) (along_next c.loop-l.invariant c.loop-l-test.true (value_of_lem c.links_from-from.ensures c.loop-l.l c.value.ensures (omega arith)) (omega arith))
 
 pub producers-preserved : goal.producers-preserved
-producers-preserved c = (omega arith, along_end c.loop-l.invariant c.producers.invariant.1 c.loop-l-test.false)
+producers-preserved g c = (omega arith, along_end c.loop-l.invariant c.producers.invariant.1 c.loop-l-test.false)
 
 pub returns-then-end-p : goal.returns-then-end-p
 unfolding theory_of
-returns-then-end-p c = between_all c.producers.invariant.1 (omega arith)
+returns-then-end-p g c = between_all c.producers.invariant.1 (omega arith)
 
 pub returns-then-atoms-value : goal.returns-then-atoms-value
-returns-then-atoms-value c = along_wrong c.loop-l.invariant c.loop-l-test.true (value_of_lem c.links_from-from.ensures c.loop-l.l c.value.ensures (omega arith)) (omega arith) c.producers.invariant.1 (omega arith)
+returns-then-atoms-value g c = along_wrong c.loop-l.invariant c.loop-l-test.true (value_of_lem c.links_from-from.ensures c.loop-l.l c.value.ensures (omega arith)) (omega arith) c.producers.invariant.1 (omega arith)

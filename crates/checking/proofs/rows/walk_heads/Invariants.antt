@@ -6,13 +6,13 @@ use Rattle.checking.proofs.FollowLaws.{Between, Along}
 use Rattle.checking.proofs.rows.walk_heads.Given as goal
 
 abbrev pub invariant-loop-l : goal.invariant-loop-l
-invariant-loop-l l = Along l.graph (λ p'. get_or l.graph 1 0) (head_link l.graph) l.p l.entries l.l
+invariant-loop-l g l = Along (g.W.Word.numbers l.graph) (λ p'. get_or (g.W.Word.numbers l.graph) 1 0) (head_link (g.W.Word.numbers l.graph)) l.p l.entries l.l
 
 abbrev pub decreases-loop-l : goal.decreases-loop-l
-decreases-loop-l l = length (chain l.graph l.l)
+decreases-loop-l g l = length (chain (g.W.Word.numbers l.graph) l.l)
 
 abbrev pub invariant-producers : goal.invariant-producers
-invariant-producers l = (l.p ≤ l.end) × Between l.graph (λ p'. get_or l.graph 1 0) (head_link l.graph) l.p l.entries
+invariant-producers g l = (l.p ≤ l.end) × Between (g.W.Word.numbers l.graph) (λ p'. get_or (g.W.Word.numbers l.graph) 1 0) (head_link (g.W.Word.numbers l.graph)) l.p l.entries
 
 abbrev pub decreases-producers : goal.decreases-producers
-decreases-producers l = l.end - l.p
+decreases-producers g l = l.end - l.p

@@ -2,13 +2,13 @@ use native.Mathlib.Omega.{arith}
 use Rattle.components.proofs.collecting.collect_body.Goals as goal
 
 pub row_start-from-requires : goal.row_start-from-requires
-row_start-from-requires c = let s = c.requires.accepted.1 in let a = s.row in let e = s.ends in let r = s.rises in let g = s.long in (omega arith, omega arith)
+row_start-from-requires g c = let s = c.requires.accepted.1 in let a = s.row in let e = s.ends in let r = s.rises in let g = s.long in (omega arith, omega arith)
 
 pub row_start-to-requires : goal.row_start-to-requires
-row_start-to-requires c = let s = c.requires.accepted.1 in let a = s.row in let e = s.ends in let r = s.rises in let g = s.long in (omega arith, omega arith)
+row_start-to-requires g c = let s = c.requires.accepted.1 in let a = s.row in let e = s.ends in let r = s.rises in let g = s.long in (omega arith, omega arith)
 
 pub collect_producers-requires : goal.collect_producers-requires
-collect_producers-requires c = let s = c.requires.accepted.1 in rw (c.row_start-from.ensures, c.row_start-to.ensures) record { accepted = (c.requires.accepted.0, s.rises, s.ends, c.requires.named); follows = c.requires.follows }
+collect_producers-requires g c = let s = c.requires.accepted.1 in rw (c.row_start-from.ensures, c.row_start-to.ensures) record { accepted = (c.requires.accepted.0, s.rises, s.ends, c.requires.named); follows = c.requires.follows }
 
 pub returns : goal.returns
-returns c = rw (c.row_start-from.ensures, c.row_start-to.ensures) at c.collect_producers.ensures
+returns g c = rw (c.row_start-from.ensures, c.row_start-to.ensures) at c.collect_producers.ensures
