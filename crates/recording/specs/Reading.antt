@@ -1,9 +1,16 @@
 -- What the reader promises: words of two bytes, low first; and once the recording is malformed, nothing changes any more.
-use Rattle.std.specs.Prelude.{◌≡◌, true, List, ℕ, ◌+◌, ◌*◌, get_or}
+use Rattle.std.specs.Prelude.{◌≡◌, List, ℕ, ◌+◌, ◌*◌, get_or, Result, Err, IfErr}
+use Rattle.recording.specs.declared.Malformed.{Malformed}
 use Rattle.recording.specs.declared.Reader.{Reader}
 
 abbrev pub word_at : List ℕ → ℕ → ℕ
 word_at bytes at = get_or bytes at 0 + 256 * get_or bytes (at + 1) 0
 
-abbrev pub Keeps : Reader → Reader → Type 0
-Keeps r s = r.bad ≡ true → s ≡ r
+module _ {R T : Type 0} where
+  -- r is the reader before, s the one after: where r found the recording malformed, s is r, and the answer is the same error
+  abbrev pub Keeps : (r s : Reader R) → Result T Malformed → Type 0
+  Keeps r s result = (e : Malformed) → r.state ≡ Err e → (s ≡ r) × (result ≡ Err e)
+
+  -- the reader keeps the error that it answers
+  abbrev pub Tells : Reader R → Result T Malformed → Type 0
+  Tells s result = IfErr result (λ e. s.state ≡ Err e)

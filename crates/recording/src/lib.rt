@@ -1,67 +1,45 @@
-// The words of a recording, 16 bits each, low byte first, read from a source, as standard input is, through a lent block.
+// The words of a recording, 16 bits each, low byte first, read from a source, as standard input is, through a block.
 #![tactic(auto)]
 
-ghost use Rattle.std.specs.Prelude.{◌≡◌, true, false, cond, ◌+◌, ◌*◌, ◌/◌, ◌%◌, ◌≤◌, min, eqb, length};
-ghost use Rattle.recording.specs.Reading.{word_at, Keeps};
+ghost use Rattle.std.specs.Prelude.{◌≡◌, ◌+◌, ◌*◌, ◌≤◌, ◌++◌, Some, Ok, Err, IfOk, OnOk, length, codes, decimal, ⊤};
 
+use arrayvec::ArrayVec;
+use std::error::Error;
+use std::fmt;
 use std::io::Read;
 
-// The last word; where the next one stands in the block, and how many bytes are left from there; how many words are read.
-// `bad`: the recording is malformed at word `words`, counted from 0, and no more is read.
-#[derive(Clone, Copy)]
-pub struct Reader {
-    pub word: u16,
-    pub at: usize,
+/// The recording is malformed at this word, counted from 0.
+#[derive(Clone, Copy, Debug, PartialEq, Eq, Hash)]
+pub struct Malformed {
+    pub word: u64,
+}
+
+impl fmt::Display for Malformed {
+    ghost output = { λ m. Some (codes "malformed recording at word " ++ decimal m.word) };
+
+    fn fmt<W: fmt::Write>(&self, f: &mut fmt::Formatter<W>) -> fmt::Result {
+        let word = self.word;
+        write!(f, "malformed recording at word {word}")
+    }
+}
+
+impl Error for Malformed {}
+
+/// Reads a recording. Once it is found malformed, `state` says where, and nothing more is read.
+#[derive(Drop)]
+pub struct Reader<R> {
+    source: R,
+    block: [u8; 65536],
+    // where the next word stands in the block, and how many bytes are left from there
+    at: usize,
     pub left: usize,
+    // how many words are read
     pub words: u64,
-    pub bad: bool,
+    pub state: Result<(), Malformed>,
+    ghost within: { at + left ≤ 65536 },
 }
 
-fn at_word(words: u64, bad: bool) -> Reader
-    ensures { (result.words ≡ words) × (result.bad ≡ bad) }
-{
-    Reader {
-        word: 0,
-        at: 0,
-        left: 0,
-        words: words,
-        bad: bad,
-    }
-}
-
-pub fn start() -> Reader
-    ensures { (result.words ≡ 0) × (result.bad ≡ false) }
-{
-    at_word(0, false)
-}
-
-// The last word is none that the format has there.
-pub fn wrong(r: Reader) -> Reader
-    ensures { Keeps r result × (result.bad ≡ true) }
-{
-    if r.bad {
-        return r;
-    }
-    if 0 < r.words {
-        return at_word(r.words - 1, true);
-    }
-    at_word(0, true)
-}
-
-// One more, and never past the largest.
-pub fn more(n: u64) -> u64
-    ensures { result ≡ min (n + 1) 18446744073709551615 }
-{
-    if n < 18446744073709551615 { n + 1 } else { n }
-}
-
-fn joined(low: u8, high: u8) -> u16
-    ensures { result ≡ low + 256 * high }
-{
-    low as u16 + 256 * (high as u16)
-}
-
-// Reads until `bytes` is full, the source ends or a read fails, and returns how many bytes it put at the start.
+// Reads until `bytes` is full, the source ends or a read fails, and returns how many bytes it put at the start. (`read_exact` does not say how many.)
 fn read_full<R: Read>(source: &mut R, bytes: &mut [u8]) -> usize
     ensures { result ≤ length bytes.new }
 {
@@ -76,192 +54,192 @@ fn read_full<R: Read>(source: &mut R, bytes: &mut [u8]) -> usize
     done
 }
 
-// A new block, where the last one is used up.
-fn fill<R: Read>(source: &mut R, block: &mut [u8; 65536], r: Reader) -> Reader {
-    if 0 < r.left {
-        return r;
-    }
-    let n = read_full(source, block);
-    Reader {
-        word: r.word,
-        at: 0,
-        left: n,
-        words: r.words,
-        bad: r.bad,
-    }
-}
-
-// The word at the reader's place in the block; an odd last byte is none.
-fn take(block: &[u8; 65536], r: Reader) -> Reader
-    ensures { result.bad ≡ false → result.word ≡ word_at block.now r.at }
-{
-    let at = r.at;
-    let left = r.left;
-    if left < 2 {
-        return at_word(r.words, true);
-    }
-    if 65534 < at {
-        return at_word(r.words, true);
-    }
-    Reader {
-        word: joined(block[at], block[at + 1]),
-        at: at + 2,
-        left: left - 2,
-        words: more(r.words),
-        bad: false,
-    }
-}
-
-pub fn next<R: Read>(source: &mut R, block: &mut [u8; 65536], r: Reader) -> Reader
-    ensures { Keeps r result }
-{
-    if r.bad {
-        return r;
-    }
-    let filled = fill(source, block, r);
-    take(block, filled)
-}
-
-// A word that the format sets.
-pub fn expect<R: Read>(source: &mut R, block: &mut [u8; 65536], r: Reader, word: u16) -> Reader
-    ensures { Keeps r result × (result.bad ≡ false → result.word ≡ word) }
-{
-    let got = next(source, block, r);
-    if got.word == word { got } else { wrong(got) }
-}
-
-// The recording ends here.
-pub fn expect_end<R: Read>(source: &mut R, block: &mut [u8; 65536], r: Reader) -> Reader
-    ensures { Keeps r result × (result.bad ≡ false → result.left ≡ 0) }
-{
-    if r.bad {
-        return r;
-    }
-    let filled = fill(source, block, r);
-    if 0 < filled.left {
-        return at_word(filled.words, true);
-    }
-    filled
-}
-
-// Fills `words`.
-pub fn read<R: Read>(
-    source: &mut R,
-    block: &mut [u8; 65536],
-    from: Reader,
-    words: &mut [u16],
-) -> Reader
-    ensures { Keeps from result }
-{
-    let mut r = from;
-    let mut i: usize = 0;
-    while i < words.len() {
-        r = next(source, block, r);
-        words[i] = r.word;
-        i += 1;
-    }
-    r
-}
-
-// Past the next n words.
-pub fn skip<R: Read>(source: &mut R, block: &mut [u8; 65536], from: Reader, n: usize) -> Reader
-    ensures { Keeps from result }
-{
-    let mut r = from;
-    let mut i: usize = 0;
-    while i < n {
-        if r.bad {
-            return r;
-        }
-        r = next(source, block, r);
-        i += 1;
-    }
-    r
-}
-
 // Four words, low first.
 fn wide(a: u16, b: u16, c: u16, d: u16) -> u64
     ensures { result ≡ a + 65536 * b + 4294967296 * c + 281474976710656 * d }
 {
-    a as u64 + 65536 * (b as u64) + 4294967296 * (c as u64) + 281474976710656 * (d as u64)
+    u64::from(a) + (u64::from(b) << 16) + (u64::from(c) << 32) + (u64::from(d) << 48)
 }
 
-#[derive(Drop)]
-struct WideWord {
-    value: u64,
-    reader: Reader,
-}
+impl<R: Read> Reader<R> {
+    ghost use Rattle.arrayvec.specs.ArrayVec.{array_vec_len};
+    ghost use Rattle.recording.specs.Reading.{word_at, Keeps, Tells};
 
-fn next_wide<R: Read>(source: &mut R, block: &mut [u8; 65536], r: Reader) -> WideWord
-    ensures { Keeps r result.reader }
-{
-    let a = next(source, block, r);
-    let b = next(source, block, a);
-    let c = next(source, block, b);
-    let d = next(source, block, c);
-    WideWord {
-        value: wide(a.word, b.word, c.word, d.word),
-        reader: d,
+    pub fn new(source: R) -> Self
+        ensures words { result.words ≡ 0 }
+        ensures state { result.state ≡ Ok tt }
+    {
+        Reader {
+            source,
+            block: [0; 65536],
+            at: 0,
+            left: 0,
+            words: 0,
+            state: Ok(()),
+        }
+    }
+
+    fn fail(&mut self, word: u64) -> Malformed
+        ensures { self.new.state ≡ Err result }
+    {
+        let malformed = Malformed { word };
+        self.state = Err(malformed);
+        malformed
+    }
+
+    /// The last word is none that the format has there.
+    pub fn wrong(&mut self) -> Malformed
+        ensures kept { Keeps {T = ⊤} self.old self.new (Err result) }
+        ensures told { self.new.state ≡ Err result }
+    {
+        if let Err(malformed) = self.state {
+            return malformed;
+        }
+        self.fail(self.words.saturating_sub(1))
+    }
+
+    // A new block, where the last one is used up.
+    fn fill(&mut self) {
+        if self.left == 0 {
+            self.at = 0;
+            self.left = read_full(&mut self.source, &mut self.block);
+        }
+    }
+
+    // The word at the reader's place in the block; an odd last byte is none.
+    fn take(&mut self) -> Result<u16, Malformed>
+        ensures word { IfOk result (λ word. word ≡ word_at self.old.block self.old.at) }
+        ensures told { Tells self.new result }
+    {
+        if self.left < 2 {
+            return Err(self.fail(self.words));
+        }
+        let word = u16::from_le_bytes([self.block[self.at], self.block[self.at + 1]]);
+        self.left -= 2;
+        self.at += 2;
+        self.words = self.words.saturating_add(1);
+        Ok(word)
+    }
+
+    pub fn next(&mut self) -> Result<u16, Malformed>
+        ensures kept { Keeps self.old self.new result }
+        ensures told { Tells self.new result }
+    {
+        self.state?;
+        self.fill();
+        self.take()
+    }
+
+    /// A word that the format sets.
+    pub fn expect(&mut self, word: u16) -> Result<u16, Malformed>
+        ensures kept { Keeps self.old self.new result }
+        ensures told { Tells self.new result }
+        ensures word { IfOk result (λ got. got ≡ word) }
+    {
+        let got = self.next()?;
+        if got == word {
+            Ok(got)
+        } else {
+            Err(self.wrong())
+        }
+    }
+
+    /// The recording ends here.
+    pub fn expect_end(&mut self) -> Result<(), Malformed>
+        ensures kept { Keeps self.old self.new result }
+        ensures told { Tells self.new result }
+        ensures end { OnOk result (self.new.left ≡ 0) }
+    {
+        self.state?;
+        self.fill();
+        if 0 < self.left {
+            return Err(self.fail(self.words));
+        }
+        Ok(())
+    }
+
+    /// Past the next n words.
+    pub fn skip(&mut self, n: usize) -> Result<(), Malformed>
+        ensures kept { Keeps self.old self.new result }
+        ensures told { Tells self.new result }
+    {
+        self.state?;
+        for _ in 0..n {
+            self.next()?;
+        }
+        Ok(())
+    }
+
+    /// The next n items.
+    pub fn list<T: Recorded, const MOST: usize>(
+        &mut self,
+        n: usize,
+    ) -> Result<ArrayVec<T, MOST>, Malformed>
+        requires { n ≤ MOST }
+        ensures kept { Keeps self.old self.new result }
+        ensures told { Tells self.new result }
+        ensures len { IfOk result (λ list. array_vec_len list ≡ n) }
+    {
+        self.state?;
+        let mut list = ArrayVec::new();
+        for _ in 0..n {
+            list.push(T::next(self)?);
+        }
+        Ok(list)
+    }
+
+    /// The next n bytes, two to a word; what stands beside an odd last one is passed over.
+    pub fn bytes<const MOST: usize>(&mut self, n: usize) -> Result<ArrayVec<u8, MOST>, Malformed>
+        requires { n ≤ MOST }
+        ensures kept { Keeps self.old self.new result }
+        ensures told { Tells self.new result }
+        ensures len { IfOk result (λ bytes. array_vec_len bytes ≡ n) }
+    {
+        self.state?;
+        let mut bytes = ArrayVec::new();
+        while bytes.len() < n {
+            let [low, high] = self.next()?.to_le_bytes();
+            bytes.push(low);
+            if bytes.len() < n {
+                bytes.push(high);
+            }
+        }
+        Ok(bytes)
     }
 }
 
-// Fills `words`, four words of the recording to each.
-pub fn read_wide<R: Read>(
-    source: &mut R,
-    block: &mut [u8; 65536],
-    from: Reader,
-    words: &mut [u64],
-) -> Reader
-    ensures { Keeps from result }
-{
-    let mut r = from;
-    let mut i: usize = 0;
-    while i < words.len() {
-        let w = next_wide(source, block, r);
-        words[i] = w.value;
-        r = w.reader;
-        i += 1;
-    }
-    r
+/// What a list of the recording is of.
+pub trait Recorded: Default + Drop {
+    ghost use Rattle.recording.specs.Reading.{Keeps, Tells};
+
+    fn next<R: Read>(reader: &mut Reader<R>) -> Result<Self, Malformed>
+        ensures kept { Keeps reader.old reader.new result }
+        ensures told { Tells reader.new result };
 }
 
-// Where byte i is: in a new word if i is even.
-fn next_byte<R: Read>(source: &mut R, block: &mut [u8; 65536], r: Reader, i: usize) -> Reader
-    ensures { Keeps r result }
-{
-    if i % 2 == 0 {
-        next(source, block, r)
-    } else {
-        r
+impl Recorded for u16 {
+    ghost use Rattle.recording.specs.Reading.{Keeps, Tells};
+
+    fn next<R: Read>(reader: &mut Reader<R>) -> Result<u16, Malformed>
+        ensures kept { Keeps reader.old reader.new result }
+        ensures told { Tells reader.new result }
+    {
+        reader.next()
     }
 }
 
-// Byte i, of its word.
-fn byte(word: u16, i: usize) -> u8
-    ensures { result ≡ cond (eqb (i % 2) 0) (word % 256) (word / 256) }
-{
-    if i % 2 == 0 {
-        (word % 256) as u8
-    } else {
-        (word / 256) as u8
-    }
-}
+impl Recorded for u64 {
+    ghost use Rattle.recording.specs.Reading.{Keeps, Tells};
 
-// Fills `bytes`, two to a word of the recording; what stands beside an odd last one is passed over.
-pub fn read_bytes<R: Read>(
-    source: &mut R,
-    block: &mut [u8; 65536],
-    from: Reader,
-    bytes: &mut [u8],
-) -> Reader
-    ensures { Keeps from result }
-{
-    let mut r = from;
-    let mut i: usize = 0;
-    while i < bytes.len() {
-        r = next_byte(source, block, r, i);
-        bytes[i] = byte(r.word, i);
-        i += 1;
+    // Four words, low first.
+    fn next<R: Read>(reader: &mut Reader<R>) -> Result<u64, Malformed>
+        ensures kept { Keeps reader.old reader.new result }
+        ensures told { Tells reader.new result }
+    {
+        let a = reader.next()?;
+        let b = reader.next()?;
+        let c = reader.next()?;
+        let d = reader.next()?;
+        Ok(wide(a, b, c, d))
     }
-    r
 }

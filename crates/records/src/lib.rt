@@ -1,72 +1,133 @@
-// What is recorded of a call or of a run of the program (crates/replay/README.md has the format), read into values. Where the recording is malformed the
-// reader that comes back is bad, and the lengths fit their rooms all the same.
+// What is recorded of a call or of a run of the program (crates/replay/README.md has the format), read into values.
 #![tactic(auto)]
 
-ghost use Rattle.std.specs.Prelude.{◌≡◌, cond, ◌≤◌, eqb, length};
-ghost use Rattle.recording.specs.Reading.{Keeps};
-ghost use Rattle.records.specs.Records.{WideFits, PrepareFits, CompleteFits};
+ghost use Rattle.std.specs.Prelude.{◌≡◌, ◌==◌, ◌≤◌, ◌++◌, if◌then◌else◌, Some, IfOk, codes, decimal};
+ghost use Rattle.arrayvec.specs.ArrayVec.{array_vec_len};
+ghost use Rattle.recording.specs.Reading.{Keeps, Tells};
 
-use recording::Reader;
+use arrayvec::ArrayVec;
+use recording::{Malformed, Reader};
+use std::error::Error;
+use std::fmt;
 use std::io::Read;
 
-fn place_room() -> [u16; 1024]
-    ensures { length result ≡ 1024 }
-{
-    [0; 1024]
+/// What a record is of.
+#[derive(Clone, Copy, Debug, PartialEq, Eq, Hash)]
+pub enum Kind {
+    Graph,
+    Run,
 }
 
-fn wide_room() -> [u64; 32]
-    ensures { length result ≡ 32 }
-{
-    [0; 32]
+/// A call on a graph.
+#[derive(Clone, Copy, Debug, PartialEq, Eq, Hash)]
+pub enum Call {
+    Check,
+    Needed,
+    Prepare,
+    Complete,
 }
 
-fn text_room() -> [u8; 6144]
-    ensures { length result ≡ 6144 }
-{
-    [0; 6144]
+/// A word that names no kind, or no call.
+#[derive(Clone, Copy, Debug, PartialEq, Eq, Hash)]
+pub struct Unknown {
+    pub word: u16,
 }
 
+impl fmt::Display for Unknown {
+    ghost output = { λ u. Some (codes "the format has no word " ++ decimal u.word ++ codes " there") };
+
+    fn fmt<W: fmt::Write>(&self, f: &mut fmt::Formatter<W>) -> fmt::Result {
+        let word = self.word;
+        write!(f, "the format has no word {word} there")
+    }
+}
+
+impl Error for Unknown {}
+
+impl TryFrom<u16> for Kind {
+    type Error = Unknown;
+
+    ghost use Rattle.records.specs.Words.{kind_of};
+
+    ghost try_from_gives = { λ word kind. kind ≡ kind_of word };
+
+    fn try_from(word: u16) -> Result<Kind, Unknown> {
+        match word {
+            1 => Ok(Kind::Graph),
+            2 => Ok(Kind::Run),
+            _ => Err(Unknown { word }),
+        }
+    }
+}
+
+impl TryFrom<u16> for Call {
+    type Error = Unknown;
+
+    ghost use Rattle.records.specs.Words.{call_of};
+
+    ghost try_from_gives = { λ word call. call ≡ call_of word };
+
+    fn try_from(word: u16) -> Result<Call, Unknown> {
+        match word {
+            1 => Ok(Call::Check),
+            2 => Ok(Call::Needed),
+            3 => Ok(Call::Prepare),
+            4 => Ok(Call::Complete),
+            _ => Err(Unknown { word }),
+        }
+    }
+}
+
+/// The places of a refusal; after success there is none.
+pub type Places = ArrayVec<u16, 1024>;
+
+/// A mask or an output.
+pub type Wide = ArrayVec<u64, 32>;
+
+/// What the program read; the longest input has 70,054 bytes.
+pub type Input = ArrayVec<u8, 72000>;
+
+/// What the program printed.
+pub type Text = ArrayVec<u8, 6144>;
+
+// A length that is at most so much.
+fn length<R: Read>(reader: &mut Reader<R>, most: usize) -> Result<usize, Malformed>
+    ensures kept { Keeps reader.old reader.new result }
+    ensures told { Tells reader.new result }
+    ensures bound { IfOk result (λ n. n ≤ most) }
+{
+    let n = usize::from(reader.next()?);
+    if n <= most {
+        Ok(n)
+    } else {
+        Err(reader.wrong())
+    }
+}
+
+fn read_mask<R: Read>(reader: &mut Reader<R>) -> Result<Wide, Malformed>
+    ensures kept { Keeps reader.old reader.new result }
+    ensures told { Tells reader.new result }
+{
+    let n = length(reader, 32)?;
+    reader.list(n)
+}
+
+/// The number and the place of a refusal, or twice 0. (They stay numbers, as the format has them: `agreement` puts them beside the answer's number.)
 #[derive(Drop)]
 pub struct Check {
     pub number: u16,
     pub place: u16,
-    pub reader: Reader,
 }
 
-pub fn read_check<R: Read>(source: &mut R, block: &mut [u8; 65536], r: Reader) -> Check
-    ensures { Keeps r result.reader }
-{
-    let number = recording::next(source, block, r);
-    let place = recording::next(source, block, number);
-    Check {
-        number: number.word,
-        place: place.word,
-        reader: place,
-    }
-}
-
-// A length that is at most so much, or a malformed recording.
-#[derive(Drop)]
-pub struct Length {
-    pub length: usize,
-    pub reader: Reader,
-}
-
-fn read_length<R: Read>(source: &mut R, block: &mut [u8; 65536], r: Reader, most: usize) -> Length
-    ensures { (result.length ≤ most) × Keeps r result.reader }
-{
-    let length = recording::next(source, block, r);
-    let n = length.word as usize;
-    if most < n {
-        return Length {
-            length: 0,
-            reader: recording::wrong(length),
-        };
-    }
-    Length {
-        length: n,
-        reader: length,
+impl Check {
+    pub fn read<R: Read>(reader: &mut Reader<R>) -> Result<Check, Malformed>
+        ensures kept { Keeps reader.old reader.new result }
+        ensures told { Tells reader.new result }
+    {
+        Ok(Check {
+            number: reader.next()?,
+            place: reader.next()?,
+        })
     }
 }
 
@@ -76,241 +137,146 @@ pub struct Needed {
     pub number: u16,
     pub place: u16,
     pub reply: u16,
-    pub reader: Reader,
 }
 
-pub fn read_needed<R: Read>(
-    source: &mut R,
-    block: &mut [u8; 65536],
-    r: Reader,
-    room: usize,
-) -> Needed
-    ensures { (result.work ≤ room) × Keeps r result.reader }
-{
-    let work = read_length(source, block, r, room);
-    let number = recording::next(source, block, work.reader);
-    let place = recording::next(source, block, number);
-    let reply = recording::next(source, block, place);
-    Needed {
-        work: work.length,
-        number: number.word,
-        place: place.word,
-        reply: reply.word,
-        reader: reply,
+impl Needed {
+    pub fn read<R: Read>(reader: &mut Reader<R>, room: usize) -> Result<Needed, Malformed>
+        ensures kept { Keeps reader.old reader.new result }
+        ensures told { Tells reader.new result }
+        ensures work { IfOk result (λ said. said.work ≤ room) }
+    {
+        Ok(Needed {
+            work: length(reader, room)?,
+            number: reader.next()?,
+            place: reader.next()?,
+            reply: reader.next()?,
+        })
     }
 }
 
-// The places of a refusal; after success there is none.
-#[derive(Drop)]
-pub struct Places {
-    pub count: usize,
-    pub places: [u16; 1024],
-    pub reader: Reader,
-}
-
+// After success there is no place.
 fn most_places(number: u16) -> usize
-    ensures { (result ≡ cond (eqb number 0) 0 1024) × (result ≤ 1024) }
+    ensures value { result ≡ (if number == 0 then 0 else 1024) }
+    ensures bound { result ≤ 1024 }
 {
     if number == 0 { 0 } else { 1024 }
 }
 
-fn read_places<R: Read>(source: &mut R, block: &mut [u8; 65536], r: Reader, number: u16) -> Places
-    ensures { (result.count ≤ length result.places) × Keeps r result.reader }
+fn read_places<R: Read>(reader: &mut Reader<R>, number: u16) -> Result<Places, Malformed>
+    ensures kept { Keeps reader.old reader.new result }
+    ensures told { Tells reader.new result }
 {
-    let count = read_length(source, block, r, most_places(number));
-    let n = count.length;
-    let mut places = place_room();
-    let whole = recording::read(source, block, count.reader, &mut places[..n]);
-    Places {
-        count: n,
-        places: places,
-        reader: whole,
-    }
+    let n = length(reader, most_places(number))?;
+    reader.list(n)
 }
 
-// A mask or an output.
-#[derive(Drop)]
-pub struct Wide {
-    pub length: usize,
-    pub words: [u64; 32],
-    pub reader: Reader,
-}
-
-fn read_words<R: Read>(source: &mut R, block: &mut [u8; 65536], r: Reader, n: usize) -> Wide
+// After success the output's words, and after a refusal as many zeros.
+fn read_output<R: Read>(reader: &mut Reader<R>, number: u16, n: usize) -> Result<Wide, Malformed>
     requires { n ≤ 32 }
-    ensures { WideFits result × Keeps r result.reader }
+    ensures kept { Keeps reader.old reader.new result }
+    ensures told { Tells reader.new result }
+    ensures len { IfOk result (λ output. array_vec_len output ≡ n) }
 {
-    let mut words = wide_room();
-    let whole = recording::read_wide(source, block, r, &mut words[..n]);
-    Wide {
-        length: n,
-        words: words,
-        reader: whole,
-    }
-}
-
-fn read_mask<R: Read>(source: &mut R, block: &mut [u8; 65536], r: Reader) -> Wide
-    ensures { WideFits result × Keeps r result.reader }
-{
-    let length = read_length(source, block, r, 32);
-    read_words(source, block, length.reader, length.length)
-}
-
-// After success the output's words, and after a refusal none.
-fn read_output<R: Read>(
-    source: &mut R,
-    block: &mut [u8; 65536],
-    r: Reader,
-    number: u16,
-    n: usize,
-) -> Wide
-    requires { n ≤ 32 }
-    ensures { WideFits result × Keeps r result.reader }
-{
+    // a malformed recording has no output either
+    reader.state?;
     if number == 0 {
-        return read_words(source, block, r, n);
+        return reader.list(n);
     }
-    Wide {
-        length: n,
-        words: wide_room(),
-        reader: r,
-    }
+    let mut output = ArrayVec::from_array_in((), [0; 32]);
+    output.truncate(n);
+    Ok(output)
 }
 
-// Of preparation, and of the pass after its masks.
+/// Of preparation, and of the pass after its masks.
 #[derive(Drop)]
 pub struct Prepare {
     pub work: usize,
     pub number: u16,
-    pub listed: Places,
+    pub places: Places,
     pub output: Wide,
-    pub reader: Reader,
 }
 
-pub fn read_prepare<R: Read>(
-    source: &mut R,
-    block: &mut [u8; 65536],
-    r: Reader,
-    room: usize,
-) -> Prepare
-    ensures { PrepareFits room result × Keeps r result.reader }
-{
-    let output = read_length(source, block, r, 32);
-    let work = read_length(source, block, output.reader, room);
-    let number = recording::next(source, block, work.reader);
-    let listed = read_places(source, block, number, number.word);
-    let words = read_output(source, block, listed.reader, number.word, output.length);
-    let reader = words.reader;
-    Prepare {
-        work: work.length,
-        number: number.word,
-        listed: listed,
-        output: words,
-        reader: reader,
+impl Prepare {
+    pub fn read<R: Read>(reader: &mut Reader<R>, room: usize) -> Result<Prepare, Malformed>
+        ensures kept { Keeps reader.old reader.new result }
+        ensures told { Tells reader.new result }
+        ensures work { IfOk result (λ said. said.work ≤ room) }
+    {
+        let n = length(reader, 32)?;
+        let work = length(reader, room)?;
+        let number = reader.next()?;
+        Ok(Prepare {
+            work,
+            number,
+            places: read_places(reader, number)?,
+            output: read_output(reader, number, n)?,
+        })
     }
 }
 
-// Of the pass.
+/// Of the pass.
 #[derive(Drop)]
 pub struct Complete {
     pub never: Wide,
     pub atom_never: Wide,
     pub rest: Prepare,
-    pub reader: Reader,
 }
 
-pub fn read_complete<R: Read>(
-    source: &mut R,
-    block: &mut [u8; 65536],
-    r: Reader,
-    room: usize,
-) -> Complete
-    ensures { CompleteFits room result × Keeps r result.reader }
-{
-    let never = read_mask(source, block, r);
-    let atom_never = read_mask(source, block, never.reader);
-    let rest = read_prepare(source, block, atom_never.reader, room);
-    let reader = rest.reader;
-    Complete {
-        never: never,
-        atom_never: atom_never,
-        rest: rest,
-        reader: reader,
+impl Complete {
+    pub fn read<R: Read>(reader: &mut Reader<R>, room: usize) -> Result<Complete, Malformed>
+        ensures kept { Keeps reader.old reader.new result }
+        ensures told { Tells reader.new result }
+        ensures work { IfOk result (λ said. said.rest.work ≤ room) }
+    {
+        Ok(Complete {
+            never: read_mask(reader)?,
+            atom_never: read_mask(reader)?,
+            rest: Prepare::read(reader, room)?,
+        })
     }
 }
 
-// The program's input goes into lent room, behind its length.
-fn read_input<R: Read>(
-    source: &mut R,
-    block: &mut [u8; 65536],
-    r: Reader,
-    bytes: &mut [u8],
-) -> Length
-    ensures { (result.length ≤ length bytes.old) × Keeps r result.reader }
-{
-    let low = recording::next(source, block, r);
-    let high = recording::next(source, block, low);
-    let n = low.word as usize + 65536 * (high.word as usize);
-    if bytes.len() < n {
-        return Length {
-            length: 0,
-            reader: recording::wrong(high),
-        };
-    }
-    let whole = recording::read_bytes(source, block, high, &mut bytes[..n]);
-    Length {
-        length: n,
-        reader: whole,
-    }
-}
-
+/// A run of the program.
 #[derive(Drop)]
-pub struct Text {
-    pub length: usize,
-    pub bytes: [u8; 6144],
-    pub reader: Reader,
+pub struct Run {
+    pub input: Input,
+    pub text: Text,
+}
+
+// The program's input, behind its length.
+fn read_input<R: Read>(reader: &mut Reader<R>) -> Result<Input, Malformed>
+    ensures kept { Keeps reader.old reader.new result }
+    ensures told { Tells reader.new result }
+{
+    let low = usize::from(reader.next()?);
+    let high = usize::from(reader.next()?);
+    let n = low + 65536 * high;
+    if 72000 < n {
+        return Err(reader.wrong());
+    }
+    reader.bytes(n)
 }
 
 // The text, behind number and places. Of a 12 it is the text for the lowest place, which is the one that `report` gives.
-fn read_text<R: Read>(source: &mut R, block: &mut [u8; 65536], r: Reader) -> Text
-    ensures { (result.length ≤ length result.bytes) × Keeps r result.reader }
+fn read_text<R: Read>(reader: &mut Reader<R>) -> Result<Text, Malformed>
+    ensures kept { Keeps reader.old reader.new result }
+    ensures told { Tells reader.new result }
 {
-    let number = recording::next(source, block, r);
-    let count = recording::next(source, block, number);
-    let places = recording::skip(source, block, count, count.word as usize);
-    let length = read_length(source, block, places, 6144);
-    let n = length.length;
-    let mut bytes = text_room();
-    let whole = recording::read_bytes(source, block, length.reader, &mut bytes[..n]);
-    Text {
-        length: n,
-        bytes: bytes,
-        reader: whole,
-    }
+    reader.next()?;
+    let count = usize::from(reader.next()?);
+    reader.skip(count)?;
+    let n = length(reader, 6144)?;
+    reader.bytes(n)
 }
 
-// A run of the program.
-#[derive(Drop)]
-pub struct Run {
-    pub input: usize,
-    pub text: Text,
-    pub reader: Reader,
-}
-
-pub fn read_run<R: Read>(
-    source: &mut R,
-    block: &mut [u8; 65536],
-    r: Reader,
-    bytes: &mut [u8],
-) -> Run
-    ensures { (result.input ≤ length bytes.old) × (result.text.length ≤ length result.text.bytes) × Keeps r result.reader }
-{
-    let input = read_input(source, block, r, bytes);
-    let text = read_text(source, block, input.reader);
-    let reader = text.reader;
-    Run {
-        input: input.length,
-        text: text,
-        reader: reader,
+impl Run {
+    pub fn read<R: Read>(reader: &mut Reader<R>) -> Result<Run, Malformed>
+        ensures kept { Keeps reader.old reader.new result }
+        ensures told { Tells reader.new result }
+    {
+        Ok(Run {
+            input: read_input(reader)?,
+            text: read_text(reader)?,
+        })
     }
 }

@@ -1,99 +1,83 @@
 // Replays the recording on standard input (README.md has its format), names the records in which something differs, and prints how many answers agree.
 #![tactic(auto)]
 
-ghost use Rattle.std.specs.Prelude.{◌≡◌, false, ◌<◌, IfOk};
+ghost use Rattle.std.specs.Prelude.{◌≡◌, OnOk};
 
-use recording::Reader;
+use recording::{Malformed, Reader};
+use scoring::{Score, Scores};
 use std::io;
 use std::io::Read;
 
-fn name(call: usize) -> &'static str {
-    match call {
-        0 => "check",
-        1 => "needed",
-        2 => "prepare",
-        3 => "complete",
-        _ => "program",
+// Why not all records were replayed.
+#[derive(Debug, Drop)]
+enum Stop {
+    Malformed(Malformed),
+    Io(io::Error),
+}
+
+impl From<Malformed> for Stop {
+    fn from(malformed: Malformed) -> Stop {
+        Stop::Malformed(malformed)
     }
 }
 
+impl From<io::Error> for Stop {
+    fn from(error: io::Error) -> Stop {
+        Stop::Io(error)
+    }
+}
+
+fn by_name(scores: &Scores) -> [(&'static str, Score); 5] {
+    [
+        ("check", scores.check),
+        ("needed", scores.needed),
+        ("prepare", scores.prepare),
+        ("complete", scores.complete),
+        ("program", scores.program),
+    ]
+}
+
 // A line for each answer that differs in this record; records are counted from 0.
-fn tell(rt: &impl Print, call: usize, before: u64, after: u64, number: u64) -> io::Result<()> {
-    let name = name(call);
-    for _ in before..after {
-        println!(rt; "{name} differs in record {number}")?;
+fn tell(rt: &impl Print, before: &Scores, after: &Scores, number: u16) -> io::Result<()> {
+    let before = by_name(before);
+    let after = by_name(after);
+    for ((name, before), (_, after)) in before.iter().zip(&after) {
+        for _ in before.differ..after.differ {
+            println!(rt; "{name} differs in record {number}")?;
+        }
     }
     Ok(())
 }
 
-fn replay_record<R: Read>(
-    rt: &impl Print,
-    source: &mut R,
-    block: &mut [u8; 65536],
-    r: Reader,
-    scores: &mut [u64; 10],
-    number: u64,
-) -> io::Result<Reader> {
-    let check = scores[1];
-    let needed = scores[3];
-    let prepare = scores[5];
-    let complete = scores[7];
-    let program = scores[9];
-    let after = replaying::replay_record(source, block, r, scores);
-    tell(rt, 0, check, scores[1], number)?;
-    tell(rt, 1, needed, scores[3], number)?;
-    tell(rt, 2, prepare, scores[5], number)?;
-    tell(rt, 3, complete, scores[7], number)?;
-    tell(rt, 4, program, scores[9], number)?;
-    Ok(after)
-}
-
 // The mark, the version and the records. A recording that is not malformed was read to its end.
-fn replay<R: Read>(
-    rt: &impl Print,
-    source: &mut R,
-    block: &mut [u8; 65536],
-    scores: &mut [u64; 10],
-) -> io::Result<Reader>
-    ensures { IfOk result (λ r. r.bad ≡ false → r.left ≡ 0) }
+fn replay<R: Read>(rt: &impl Print, reader: &mut Reader<R>, scores: &mut Scores) -> Result<(), Stop>
+    ensures { OnOk result (reader.new.left ≡ 0) }
 {
-    let mark = recording::expect(source, block, recording::start(), 0x5346);
-    let version = recording::expect(source, block, mark, 1);
-    let mut r = recording::next(source, block, version);
-    let n = r.word as u64;
-    for i in 0..n {
-        if r.bad {
-            return Ok(r);
-        }
-        r = replay_record(rt, source, block, r, scores, i)?;
+    reader.expect(0x5346)?;
+    reader.expect(1)?;
+    let records = reader.next()?;
+    for number in 0..records {
+        let before = *scores;
+        let replayed = replaying::replay_record(reader, scores);
+        tell(rt, &before, scores, number)?;
+        replayed?;
     }
-    Ok(recording::expect_end(source, block, r))
+    reader.expect_end()?;
+    Ok(())
 }
 
-fn print_call(rt: &impl Print, scores: &[u64; 10], call: usize) -> io::Result<()>
-    requires { call < 5 }
-{
-    let name = name(call);
-    let agree = scores[2 * call];
-    let differ = scores[2 * call + 1];
-    println!(rt; "{name} {agree} agree, {differ} differ")
-}
-
-fn print(rt: &impl Print, r: Reader, scores: &[u64; 10]) -> io::Result<()> {
-    if r.bad {
-        let word = r.words;
-        return println!(rt; "malformed recording at word {word}");
+fn print(rt: &impl Print, scores: &Scores) -> io::Result<()> {
+    for (name, score) in by_name(scores) {
+        println!(rt; "{name} {score}")?;
     }
-    print_call(rt, scores, 0)?;
-    print_call(rt, scores, 1)?;
-    print_call(rt, scores, 2)?;
-    print_call(rt, scores, 3)?;
-    print_call(rt, scores, 4)
+    Ok(())
 }
 
 fn main(rt: HostRuntime) -> io::Result<()> {
-    let mut block = [0u8; 65536];
-    let mut scores = [0u64; 10];
-    let r = replay(&rt, &mut rt.stdin(), &mut block, &mut scores)?;
-    print(&rt, r, &scores)
+    let mut scores = Scores::default();
+    match replay(&rt, &mut Reader::new(rt.stdin()), &mut scores) {
+        Ok(()) => print(&rt, &scores),
+        Err(Stop::Malformed(malformed)) => println!(rt; "{malformed}"),
+        Err(Stop::Io(error)) => Err(error),
+    }
 }

@@ -1,135 +1,75 @@
 // Goes through the records of a recording: every call and every run of the program in them is replayed and counted.
 #![tactic(auto)]
 
-ghost use Rattle.std.specs.Prelude.{◌≡◌, length};
-ghost use Rattle.recording.specs.Reading.{Keeps};
+ghost use Rattle.recording.specs.Reading.{Keeps, Tells};
 
-use recording::Reader;
+use arrayvec::ArrayVec;
+use recording::{Malformed, Reader};
+use records::{Call, Kind};
+use scoring::Scores;
 use std::io::Read;
 
-// Room for the longest graph.
-fn graph_room() -> [u16; 13400]
-    ensures { 13400 ≡ length result }
-{
-    [0; 13400]
-}
-
-// Room for the longest work area.
-fn work_room() -> [u16; 65536]
-    ensures { 65536 ≡ length result }
-{
-    [0; 65536]
-}
-
-// Room for the longest input, 70,054 bytes.
-fn byte_room() -> [u8; 72000]
-    ensures { 72000 ≡ length result }
-{
-    [0; 72000]
-}
-
 // One of the four calls, by its word.
-fn score_call<R: Read>(
-    source: &mut R,
-    block: &mut [u8; 65536],
-    r: Reader,
+fn replay_call<R: Read>(
+    reader: &mut Reader<R>,
     graph: &[u16],
-    scores: &mut [u64; 10],
-) -> Reader
-    ensures { Keeps r result }
+    scores: &mut Scores,
+) -> Result<(), Malformed>
+    ensures kept { Keeps reader.old reader.new result }
+    ensures told { Tells reader.new result }
 {
-    let n = r.word;
-    let mut work = work_room();
-    if n == 1 {
-        let check = scoring::score_check(source, block, r, graph, scores);
-        return check.reader;
-    }
-    if n == 2 {
-        let needed = scoring::score_needed(source, block, r, graph, &mut work, scores);
-        return needed.reader;
-    }
-    if n == 3 {
-        let prepare = scoring::score_prepare(source, block, r, graph, &mut work, scores);
-        return prepare.reader;
-    }
-    if n == 4 {
-        let complete = scoring::score_complete(source, block, r, graph, &mut work, scores);
-        return complete.reader;
-    }
-    recording::wrong(r)
-}
-
-fn replay_calls<R: Read>(
-    source: &mut R,
-    block: &mut [u8; 65536],
-    from: Reader,
-    graph: &[u16],
-    scores: &mut [u64; 10],
-) -> Reader
-    ensures { Keeps from result }
-{
-    let mut r = recording::next(source, block, from);
-    let n = r.word;
-    let mut i: u16 = 0;
-    while i < n {
-        if r.bad {
-            return r;
+    let Ok(call) = Call::try_from(reader.next()?) else {
+        return Err(reader.wrong());
+    };
+    // the longest work area that can be recorded
+    let mut work = [0u16; 65536];
+    match call {
+        Call::Check => {
+            scoring::score_check(reader, graph, &mut scores.check)?;
         }
-        let which = recording::next(source, block, r);
-        r = score_call(source, block, which, graph, scores);
-        i += 1;
+        Call::Needed => {
+            scoring::score_needed(reader, graph, &mut work, &mut scores.needed)?;
+        }
+        Call::Prepare => {
+            scoring::score_prepare(reader, graph, &mut work, &mut scores.prepare)?;
+        }
+        Call::Complete => {
+            scoring::score_complete(reader, graph, &mut work, &mut scores.complete)?;
+        }
     }
-    r
+    Ok(())
 }
 
-// A graph and its calls.
-fn replay_graph<R: Read>(
-    source: &mut R,
-    block: &mut [u8; 65536],
-    r: Reader,
-    scores: &mut [u64; 10],
-) -> Reader
-    ensures { Keeps r result }
+// A graph of at most 13,400 words, and its calls.
+fn replay_graph<R: Read>(reader: &mut Reader<R>, scores: &mut Scores) -> Result<(), Malformed>
+    ensures kept { Keeps reader.old reader.new result }
+    ensures told { Tells reader.new result }
 {
-    let size = recording::next(source, block, r);
-    let n = size.word as usize;
-    if 13400 < n {
-        return recording::wrong(size);
+    let size = usize::from(reader.next()?);
+    if 13400 < size {
+        return Err(reader.wrong());
     }
-    let mut graph = graph_room();
-    let whole = recording::read(source, block, size, &mut graph[..n]);
-    replay_calls(source, block, whole, &graph[..n], scores)
+    let graph: ArrayVec<u16, 13400> = reader.list(size)?;
+    let calls = reader.next()?;
+    for _ in 0..calls {
+        replay_call(reader, graph.as_slice(), scores)?;
+    }
+    Ok(())
 }
 
-fn replay_run<R: Read>(
-    source: &mut R,
-    block: &mut [u8; 65536],
-    r: Reader,
-    scores: &mut [u64; 10],
-) -> Reader
-    ensures { Keeps r result }
+/// The next record, by its word.
+pub fn replay_record<R: Read>(reader: &mut Reader<R>, scores: &mut Scores) -> Result<(), Malformed>
+    ensures kept { Keeps reader.old reader.new result }
+    ensures told { Tells reader.new result }
 {
-    let mut bytes = byte_room();
-    let run = scoring::score_run(source, block, r, &mut bytes, scores);
-    run.reader
-}
-
-// The next record, by its word.
-pub fn replay_record<R: Read>(
-    source: &mut R,
-    block: &mut [u8; 65536],
-    r: Reader,
-    scores: &mut [u64; 10],
-) -> Reader
-    ensures { Keeps r result }
-{
-    let kind = recording::next(source, block, r);
-    let n = kind.word;
-    if n == 1 {
-        return replay_graph(source, block, kind, scores);
+    let Ok(kind) = Kind::try_from(reader.next()?) else {
+        return Err(reader.wrong());
+    };
+    match kind {
+        Kind::Graph => replay_graph(reader, scores)?,
+        Kind::Run => {
+            scoring::score_run(reader, &mut scores.program)?;
+        }
     }
-    if n == 2 {
-        return replay_run(source, block, kind, scores);
-    }
-    recording::wrong(kind)
+    Ok(())
 }

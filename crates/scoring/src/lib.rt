@@ -2,185 +2,149 @@
 // `check`, `needed`, `prepare`, `complete` and the program, how many agree and how many differ.
 #![tactic(auto)]
 
-ghost use Rattle.std.specs.Prelude.{◌≡◌, ◌<◌, length};
-ghost use Rattle.recording.specs.Reading.{Keeps};
-ghost use Rattle.records.specs.Records.{PrepareFits, CompleteFits};
-ghost use Rattle.scoring.specs.Scores.{counted, scored, Scored};
+ghost use Rattle.std.specs.Prelude.{◌≡◌, ◌++◌, Some, IfOk, OnErr, codes, decimal};
+ghost use Rattle.recording.specs.Reading.{Keeps, Tells};
+ghost use Rattle.scoring.specs.Scores.{scored, Scored};
 ghost use Rattle.scoring.specs.Said.{CheckSaid, NeededSaid, PrepareSaid, CompleteSaid, RunSaid};
 
-use recording::Reader;
+use recording::{Malformed, Reader};
 use records::{Check, Complete, Needed, Prepare, Run};
+use std::fmt;
 use std::io::Read;
 
-fn count(scores: &mut [u64; 10], at: usize)
-    requires { at < 10 }
-    ensures { scores.new ≡ counted scores.old at }
-{
-    scores[at] = recording::more(scores[at]);
+/// How many answers of a call agree with what is recorded, and how many differ.
+#[derive(Clone, Copy, Debug, Default, PartialEq, Eq)]
+pub struct Score {
+    pub agree: u64,
+    pub differ: u64,
 }
 
-fn score(scores: &mut [u64; 10], call: usize, same: bool)
-    requires { call < 5 }
-    ensures { scores.new ≡ scored call same scores.old }
-{
-    if same {
-        count(scores, 2 * call);
-        return;
+impl fmt::Display for Score {
+    ghost output = { λ s. Some (decimal s.agree ++ codes " agree, " ++ decimal s.differ ++ codes " differ") };
+
+    fn fmt<W: fmt::Write>(&self, f: &mut fmt::Formatter<W>) -> fmt::Result {
+        let agree = self.agree;
+        let differ = self.differ;
+        write!(f, "{agree} agree, {differ} differ")
     }
-    count(scores, 2 * call + 1);
 }
+
+impl Score {
+    fn count(&mut self, same: bool)
+        ensures { self.new ≡ scored same self.old }
+    {
+        if same {
+            self.agree = self.agree.saturating_add(1);
+        } else {
+            self.differ = self.differ.saturating_add(1);
+        }
+    }
+}
+
+/// Of each call and of the program.
+#[derive(Clone, Copy, Debug, Default, PartialEq, Eq)]
+pub struct Scores {
+    pub check: Score,
+    pub needed: Score,
+    pub prepare: Score,
+    pub complete: Score,
+    pub program: Score,
+}
+
+// The five differ in what they lend the comparison and in which it is; reading and counting is one line in each, so a trait over them would be longer.
 
 pub fn score_check<R: Read>(
-    source: &mut R,
-    block: &mut [u8; 65536],
-    r: Reader,
+    reader: &mut Reader<R>,
     graph: &[u16],
-    scores: &mut [u64; 10],
-) -> Check
-    ensures { Keeps r result.reader × Scored (CheckSaid graph.now result) result.reader.bad 0 scores.old scores.new }
+    score: &mut Score,
+) -> Result<Check, Malformed>
+    ensures kept { Keeps reader.old reader.new result }
+    ensures told { Tells reader.new result }
+    ensures scored { IfOk result (λ said. Scored (CheckSaid graph.now said) score.old score.new) }
+    ensures unscored { OnErr result (score.new ≡ score.old) }
 {
-    let said = records::read_check(source, block, r);
-    let reader = said.reader;
-    if reader.bad {
-        return said;
-    }
-    let same = agreement::check_agrees(graph, said.number, said.place);
-    score(scores, 0, same);
-    said
+    let said = Check::read(reader)?;
+    score.count(agreement::check_agrees(graph, said.number, said.place));
+    Ok(said)
 }
 
 pub fn score_needed<R: Read>(
-    source: &mut R,
-    block: &mut [u8; 65536],
-    r: Reader,
+    reader: &mut Reader<R>,
     graph: &[u16],
     work: &mut [u16],
-    scores: &mut [u64; 10],
-) -> Needed
-    ensures { Keeps r result.reader × Scored (NeededSaid graph.now result) result.reader.bad 1 scores.old scores.new }
+    score: &mut Score,
+) -> Result<Needed, Malformed>
+    ensures kept { Keeps reader.old reader.new result }
+    ensures told { Tells reader.new result }
+    ensures scored { IfOk result (λ said. Scored (NeededSaid graph.now said) score.old score.new) }
+    ensures unscored { OnErr result (score.new ≡ score.old) }
 {
-    let said = records::read_needed(source, block, r, work.len());
-    let reader = said.reader;
-    if reader.bad {
-        return said;
-    }
-    let n = said.work;
-    let same = agreement::needed_agrees(graph, &mut work[..n], said.number, said.place, said.reply);
-    score(scores, 1, same);
-    said
-}
-
-fn prepare_agrees(graph: &[u16], work: &mut [u16], said: &Prepare) -> bool
-    requires { PrepareFits (length work.old) said.now }
-    ensures { PrepareSaid graph.now said.now result }
-{
-    let n = said.work;
-    let listed = &said.listed;
-    let output = &said.output;
-    let q = listed.count;
-    let places = listed.places;
-    let k = output.length;
-    let words = output.words;
-    let mut room = words;
-    agreement::prepare_agrees(
-        graph,
-        &mut room[..k],
-        &mut work[..n],
-        said.number,
-        &places[..q],
-        &words[..k],
-    )
+    let said = Needed::read(reader, work.len())?;
+    let work = &mut work[..said.work];
+    score.count(agreement::needed_agrees(graph, work, said.number, said.place, said.reply));
+    Ok(said)
 }
 
 pub fn score_prepare<R: Read>(
-    source: &mut R,
-    block: &mut [u8; 65536],
-    r: Reader,
+    reader: &mut Reader<R>,
     graph: &[u16],
     work: &mut [u16],
-    scores: &mut [u64; 10],
-) -> Prepare
-    ensures { Keeps r result.reader × Scored (PrepareSaid graph.now result) result.reader.bad 2 scores.old scores.new }
+    score: &mut Score,
+) -> Result<Prepare, Malformed>
+    ensures kept { Keeps reader.old reader.new result }
+    ensures told { Tells reader.new result }
+    ensures scored { IfOk result (λ said. Scored (PrepareSaid graph.now said) score.old score.new) }
+    ensures unscored { OnErr result (score.new ≡ score.old) }
 {
-    let said = records::read_prepare(source, block, r, work.len());
-    let reader = said.reader;
-    if reader.bad {
-        return said;
-    }
-    let same = prepare_agrees(graph, work, &said);
-    score(scores, 2, same);
-    said
-}
-
-fn complete_agrees(graph: &[u16], work: &mut [u16], said: &Complete) -> bool
-    requires { CompleteFits (length work.old) said.now }
-    ensures { CompleteSaid graph.now said.now result }
-{
-    let never = &said.never;
-    let a = never.length;
-    let nodes = never.words;
-    let atom_never = &said.atom_never;
-    let b = atom_never.length;
-    let atoms = atom_never.words;
-    let rest = &said.rest;
-    let n = rest.work;
-    let listed = &rest.listed;
-    let output = &rest.output;
-    let q = listed.count;
-    let places = listed.places;
-    let k = output.length;
-    let words = output.words;
-    let mut room = words;
-    agreement::complete_agrees(
+    let said = Prepare::read(reader, work.len())?;
+    let words = said.output.as_slice();
+    let mut output = [0u64; 32];
+    score.count(agreement::prepare_agrees(
         graph,
-        &nodes[..a],
-        &atoms[..b],
-        &mut room[..k],
-        &mut work[..n],
-        rest.number,
-        &places[..q],
-        &words[..k],
-    )
+        &mut output[..words.len()],
+        &mut work[..said.work],
+        said.number,
+        said.places.as_slice(),
+        words,
+    ));
+    Ok(said)
 }
 
 pub fn score_complete<R: Read>(
-    source: &mut R,
-    block: &mut [u8; 65536],
-    r: Reader,
+    reader: &mut Reader<R>,
     graph: &[u16],
     work: &mut [u16],
-    scores: &mut [u64; 10],
-) -> Complete
-    ensures { Keeps r result.reader × Scored (CompleteSaid graph.now result) result.reader.bad 3 scores.old scores.new }
+    score: &mut Score,
+) -> Result<Complete, Malformed>
+    ensures kept { Keeps reader.old reader.new result }
+    ensures told { Tells reader.new result }
+    ensures scored { IfOk result (λ said. Scored (CompleteSaid graph.now said) score.old score.new) }
+    ensures unscored { OnErr result (score.new ≡ score.old) }
 {
-    let said = records::read_complete(source, block, r, work.len());
-    let reader = said.reader;
-    if reader.bad {
-        return said;
-    }
-    let same = complete_agrees(graph, work, &said);
-    score(scores, 3, same);
-    said
+    let said = Complete::read(reader, work.len())?;
+    let rest = &said.rest;
+    let words = rest.output.as_slice();
+    let mut output = [0u64; 32];
+    score.count(agreement::complete_agrees(
+        graph,
+        said.never.as_slice(),
+        said.atom_never.as_slice(),
+        &mut output[..words.len()],
+        &mut work[..rest.work],
+        rest.number,
+        rest.places.as_slice(),
+        words,
+    ));
+    Ok(said)
 }
 
-pub fn score_run<R: Read>(
-    source: &mut R,
-    block: &mut [u8; 65536],
-    r: Reader,
-    bytes: &mut [u8],
-    scores: &mut [u64; 10],
-) -> Run
-    ensures { Keeps r result.reader × Scored (RunSaid bytes.new result) result.reader.bad 4 scores.old scores.new }
+pub fn score_run<R: Read>(reader: &mut Reader<R>, score: &mut Score) -> Result<Run, Malformed>
+    ensures kept { Keeps reader.old reader.new result }
+    ensures told { Tells reader.new result }
+    ensures scored { IfOk result (λ said. Scored (RunSaid said) score.old score.new) }
+    ensures unscored { OnErr result (score.new ≡ score.old) }
 {
-    let said = records::read_run(source, block, r, bytes);
-    let reader = said.reader;
-    if reader.bad {
-        return said;
-    }
-    let text = &said.text;
-    let n = said.input;
-    let k = text.length;
-    let same = agreement::program_agrees(&bytes[..n], &text.bytes[..k]);
-    score(scores, 4, same);
-    said
+    let said = Run::read(reader)?;
+    score.count(agreement::program_agrees(said.input.as_slice(), said.text.as_slice()));
+    Ok(said)
 }
