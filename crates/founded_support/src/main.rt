@@ -9,7 +9,8 @@ ghost use Rattle.std.specs.Prelude.{◌≤◌, length, IfOk};
 use std::io;
 use std::io::Read;
 
-// Reads until `bytes` is full or the source ends, and returns how many bytes it put at the start.
+// Reads until `bytes` is full or the source ends, and returns how many bytes it put at the start. A Vec and `read_to_end` would be plainer, but the
+// program would then rest on three more C functions whose contracts are assumed, those of the heap.
 fn read_full<R: Read>(source: &mut R, bytes: &mut [u8]) -> io::Result<usize>
     ensures { IfOk result (λ n. n ≤ length bytes.new) }
 {
@@ -30,7 +31,7 @@ fn main(rt: HostRuntime) -> io::Result<()> {
     let mut out = [0u8; 6144];
     let read = read_full(&mut source, &mut input)?;
     let written = report::report(&input[..read], &mut out);
-    if read == 26891 {
+    if read == input.len() {
         io::copy(&mut source, &mut io::sink())?;
     }
     rt.write_all(&out[..written])

@@ -1,62 +1,55 @@
 -- Words in bytes, and a list that is filled with them from the front.
 use mathlib.Core.Path.{◌≡◌, refl, sym, ap, ◌∙◌}
 use mathlib.Core.List.{List, [], ◌∷◌, ◌++◌}
-use Prim.Native.Nat.{ℕ, zero, suc, ◌+◌, ◌-◌, ◌*◌, ◌/◌, ◌^◌, ◌≤◌, ◌<◌}
-use native.Mathlib.Nat.{not-suc-le-zero}
+use Prim.Native.Nat.{ℕ, zero, suc, ◌+◌, ◌*◌, ◌/◌, ◌≤◌, ◌<◌}
+use native.Mathlib.Nat.{not-suc-le-zero, add-zero, add-suc, add_comm, mul-zero, mul-suc}
 use native.Mathlib.Numerals.{add-one}
+use Rattle.std.specs.Simd.{first_chunks}
 use native.Mathlib.Omega.{arith}
 use native.Mathlib.Decide.{dec_lt}
-use lib.ListN.{length, get_or, take, drop, set, length-append, length-drop, get_or-append}
-use lib.Pow.{pow_mono, pow-add}
-use lib.Seq.{take-suc-set, get_or_at, length-take-le, take_all}
+use lib.ListN.{length, get_or, take, drop, set, length-append, get_or-append}
+use lib.Seq.{get_or-take, get_or-drop, drop-drop, take-suc-set, get_or_at, length-take-le}
 use Rattle.input.specs.Bytes.{little_endian, tabulate, word_at, Decoded}
 
--- ---- one number, from its highest byte down
+-- ---- one number
 
-module _ (bytes : List ℕ) (at k : ℕ) where
-  -- x is the number in the bytes from `at + i` to the last one
-  pub record Read (i x : ℕ) : Type 0 where
-    pub within : i ≤ k
-    pub value : x ≡ little_endian bytes (at + i) (k - i)
-    pub small : x < 2 ^ (8 * (k - i))
+-- two bytes, as the library reads them
+pub low_high : (bytes : List ℕ) (at : ℕ) → get_or bytes at 0 + get_or bytes (at + 1) 0 * 256 ≡ little_endian bytes at 2
+unfolding little_endian
+low_high bytes at = rw add-one (omega arith)
 
-  pub read_none : Read k 0
-  unfolding little_endian
-  read_none = let e : k - k ≡ 0 = omega arith in record { within = omega arith; value = rw e; small = rw e (omega arith) }
+-- ---- numbers in a part
 
-  -- at most seven bytes are read before the last one
-  pub read_small : (i x : ℕ) → Read i x → k ≤ 8 → 0 < i → x < 2 ^ 56
-  read_small i x r h g = let few : 8 * (k - i) ≤ 56 = omega arith in omega (arith, pow_mono few)
+pub little_take : (bytes : List ℕ) (n at k : ℕ) → at + k ≤ n → little_endian (take n bytes) at k ≡ little_endian bytes at k
+unfolding little_endian
+little_take bytes n at zero h = refl
+little_take bytes n at (suc k) h = rw (get_or-take n bytes at 0 (omega arith), little_take bytes n (suc at) k (omega arith))
 
-  pub read_next : (i x b : ℕ) → Read i x → 0 < i → b ≡ get_or bytes (at + (i - 1)) 0 → b < 256 → Read (i - 1) (b + 256 * x)
-  unfolding little_endian
-  read_next i x b r g e l =
-      let n : k - (i - 1) ≡ suc (k - i) = omega (arith, r.within) in
-      let p : suc (at + (i - 1)) ≡ at + i = omega arith in
-      let w : 8 * suc (k - i) ≡ 8 * (k - i) + 8 = omega arith in
-      record {
-        within = omega (arith, r.within);
-        value = rw (n, p, e, r.value);
-        small = rw (n, w, pow-add 2 (8 * (k - i)) 8) (omega (arith, r.small));
-      }
+pub little_drop : (bytes : List ℕ) (n at k : ℕ) → little_endian (drop n bytes) at k ≡ little_endian bytes (n + at) k
+unfolding little_endian
+little_drop bytes n at zero = refl
+little_drop bytes n at (suc k) = rw (get_or-drop, little_drop bytes n (suc at) k, add-suc)
 
-  pub read_all : (x : ℕ) → Read 0 x → (x ≡ little_endian bytes at k) × (x < 2 ^ (8 * k))
-  read_all x r =
-      let n : k - 0 ≡ k = omega arith in
-      let p : at + 0 ≡ at = omega arith in
-      (rw (p, n) at r.value, rw n at r.small)
+pub chunk_at : (n k i : ℕ) (bytes d : List ℕ) → i < k → get_or (first_chunks n k bytes) i d ≡ take n (drop (n * i) bytes)
+chunk_at n zero i bytes d h = absurd (not-suc-le-zero h)
+chunk_at n (suc k) zero bytes d h = rw (mul-zero n)
+chunk_at n (suc k) (suc i) bytes d h = chunk_at n k i (drop n bytes) d (omega arith) ∙ rw (drop-drop, add_comm n (n * i), ← mul-suc) refl
+
+-- chunk i of n bytes each holds word i
+pub chunk_word : (n k i : ℕ) (bytes d : List ℕ) {chunk : List ℕ} {whole : List (List ℕ)} → whole ≡ first_chunks n k bytes → i < k → chunk ≡ get_or whole i d → little_endian chunk 0 n ≡ word_at n bytes i
+chunk_word n k i bytes d w h e = rw (e, w, chunk_at n k i bytes d h, little_take (drop (n * i) bytes) n 0 n (omega arith), little_drop bytes (n * i) 0 n, add-zero)
 
 -- ---- a list of words, filled from the front
 
-pub fill_start : (g : ℕ → ℕ) (l : List ℕ) → take 0 l ≡ tabulate g 0
+pub fill_start : {W : Type 0} (g : ℕ → W) (l : List W) → take 0 l ≡ tabulate g 0
 unfolding tabulate
 fill_start g l = refl
 
-pub fill_next : (g : ℕ → ℕ) (l : List ℕ) (i v : ℕ) → take i l ≡ tabulate g i → i < length l → v ≡ g i → take (i + 1) (set l i v) ≡ tabulate g (i + 1)
+pub fill_next : {W : Type 0} (g : ℕ → W) (l : List W) (i : ℕ) (v : W) → take i l ≡ tabulate g i → i < length l → v ≡ g i → take (i + 1) (set l i v) ≡ tabulate g (i + 1)
 unfolding tabulate
 fill_next g l i v p h e = rw (add-one, take-suc-set l i v h, p, e)
 
-pub tabulate_length : (g : ℕ → ℕ) (n : ℕ) → length (tabulate g n) ≡ n
+pub tabulate_length : {W : Type 0} (g : ℕ → W) (n : ℕ) → length (tabulate g n) ≡ n
 unfolding tabulate
 tabulate_length g zero = refl
 tabulate_length g (suc n) = rw (length-append, tabulate_length g n) (add-one n)
@@ -72,10 +65,7 @@ tabulate_at g (suc n) i h = go (dec_lt i n) (tabulate_at g n i)
         let e : i ≡ n = omega arith in
         get_or_at (tabulate g n) (g n) [] 0 i (tabulate_length g n ∙ sym e) ∙ ap g (sym e)
 
-pub fill_whole : (k : ℕ) (bytes l : List ℕ) (i n : ℕ) → take i l ≡ tabulate (word_at k bytes) i → i ≡ n → n ≡ length bytes / k → n ≤ length l → Decoded k bytes l n
-fill_whole k bytes l i n p e c h =
+pub fill_whole : {W : Type 0} (of : ℕ → W) (k : ℕ) (bytes : List ℕ) (l : List W) (i n : ℕ) → take i l ≡ tabulate (λ j. of (word_at k bytes j)) i → i ≡ n → n ≡ length bytes / k → n ≤ length l
+    → Decoded of k bytes l n
+fill_whole of k bytes l i n p e c h =
     record { count = c; within = h; exact = sym (length-take-le n l h); decoded = rw (← c, ← e) p }
-
--- a part to the end, as the code lends it
-pub rest_all : (l : List ℕ) (n : ℕ) → take (length l - n) (drop n l) ≡ drop n l
-rest_all l n = let h : length (drop n l) ≤ length l - n = rw length-drop (omega arith) in take_all (length l - n) (drop n l) h

@@ -1,22 +1,17 @@
 -- The header sizes the graph, and a part of the input that holds the header has the same one.
-use mathlib.Core.Path.{◌≡◌, refl, sym, ◌∙◌}
+use mathlib.Core.Path.{◌≡◌, sym, ◌∙◌}
 use mathlib.Core.List.{List}
-use Prim.Native.Nat.{ℕ, zero, suc, ◌+◌, ◌-◌, ◌*◌, ◌/◌, ◌≤◌, ◌<◌, min}
+use Prim.Native.Nat.{ℕ, ◌-◌, ◌*◌, ◌/◌, ◌≤◌, ◌<◌, min}
 use native.Mathlib.Omega.{arith}
 use native.Mathlib.Decide.{dec_le}
 use lib.ListN.{length, get_or, take, drop, length-take, length-drop, drop_of_length-le}
-use lib.Seq.{take_all, take-take, get_or-take}
+use lib.Seq.{take_all, take-take}
 use Rattle.theory.specs.Accepted.{size_of}
-use Rattle.input.specs.Bytes.{little_endian, word_at, words}
+use Rattle.input.specs.Bytes.{word_at, words}
 use Rattle.input.specs.Input.{graph_size, graph_of, masks_of}
-use Rattle.input.proofs.ByteLaws.{tabulate_length, tabulate_at}
+use Rattle.input.proofs.ByteLaws.{little_take, tabulate_length, tabulate_at}
 
 -- ---- words of a part
-
-little_take : (bytes : List ℕ) (n at k : ℕ) → at + k ≤ n → little_endian (take n bytes) at k ≡ little_endian bytes at k
-unfolding little_endian
-little_take bytes n at zero h = refl
-little_take bytes n at (suc k) h = rw (get_or-take n bytes at 0 (omega arith), little_take bytes n (suc at) k (omega arith))
 
 -- as many bytes as the header has, and the header's words
 module _ (bytes : List ℕ) (n : ℕ) (long : 10 ≤ length bytes) (some : 10 ≤ n) where

@@ -3,14 +3,14 @@ use mathlib.Core.Path.{◌≡◌, refl, sym, ap, ◌∙◌}
 use mathlib.Core.Logic.{◌⊎◌, inl, inr}
 use mathlib.Core.Bool.{Bool, true, false}
 use mathlib.Core.List.{List, [], ◌∷◌, ◌++◌}
-use Prim.Native.Nat.{ℕ, ◌+◌, ◌-◌, ◌*◌, ◌≤◌}
+use Prim.Native.Nat.{ℕ, ◌+◌, ◌*◌, ◌/◌, ◌≤◌}
 use native.Mathlib.Omega.{arith}
 use lib.Dec.{eqb}
-use lib.ListN.{length, get_or, take, drop, length-take, length-drop}
+use lib.ListN.{length, get_or, take, drop, length-take}
 use lib.Seq.{length-take-le}
 use borrow.Author.Tests.{eq-eqb, ne_eqb, eqb-true, eqb-false, not-false}
+use Rattle.std.specs.Prelude.{Result, Ok, Err}
 use Rattle.theory.specs.Sets.{Mem, members}
-use Rattle.theory.specs.Theory.{Theory}
 use Rattle.theory.specs.Words.{theory_of, bit_at}
 use Rattle.theory.specs.Accepted.{edition1}
 use Rattle.theory.specs.Founded.{has_cycle, missing}
@@ -22,39 +22,25 @@ use Rattle.refusals.specs.Refusals.{graph_rows, graph_answer, answer_of}
 use Rattle.refusals.specs.declared.Checked.{Checked}
 use Rattle.refusals.specs.declared.Checked.TheVariants.{Accepted, Edition, Counts, Size, Node, Producer, Link, Back, Leaf, Head, Entries}
 use Rattle.refusals.proofs.AcceptedLaws.{accepted}
-use Rattle.cycles.specs.Outcome.{Outcome, loops, refused, outcome, outcome_of}
-use Rattle.cycles.specs.declared.Need.{Need}
 use Rattle.founded.specs.Answers.{absorbed_row, bad_lengths, completed_of, Completes}
 use Rattle.founded.specs.declared.Completed.{Completed}
 use Rattle.founded.proofs.OutputLaws.{missing_list}
 use Rattle.founded.proofs.CallLaws.{absorbed_last, last_row, work_fits}
 use Rattle.input.specs.Bytes.{words}
-use Rattle.input.proofs.ByteLaws.{rest_all}
-use Rattle.text.specs.Text.{loops_line, missing_line, refused_line, Appended}
-use Rattle.report.specs.Report.{text_by, lines, atom_mask, node_mask, bad_masks, answer, Printed, Split, Ready}
-
--- ---- the loop test
-
-abbrev pub reply_of : Outcome → Bool
-reply_of (loops b) = b
-reply_of (refused a) = false
-
-pub loops_reply : (graph work : List ℕ) {r said : Need} → graph_answer edition1 graph ≡ accept → length work ≡ 32768 → outcome_of r ≡ outcome edition1 graph work → r ≡ said
-    → reply_of (outcome_of said) ≡ has_cycle (theory_of graph)
-loops_reply graph work e h tests told =
-    let accepted-graph : outcome edition1 graph work ≡ loops (has_cycle (theory_of graph)) = rw (e, eq-eqb (length work) 32768 h) in
-    ap (λ (x : Need). reply_of (outcome_of x)) (sym told) ∙ ap reply_of (tests ∙ accepted-graph)
+use Rattle.text.specs.Text.{loops_line, missing_line, Appended}
+use Rattle.report.specs.Report.{lines, atom_mask, node_mask, bad_masks, answer, Printed, Split}
+use Rattle.report.specs.declared.Refusal.{Refusal}
+use Rattle.report.specs.Answered.{Refuses, Says, Ready, Answered}
 
 -- ---- the pass
 
 -- nothing but row 12 is left for the pass to refuse
-pub pass_row : {graph never atom_never out output work output' work' : List ℕ} {r : Completed} → Ready graph never atom_never out
-    → length output ≡ words_of (get_or graph 1 0) → length work ≡ 32768 → Completes edition1 graph never atom_never output work output' work' r
-    → absorbed_row (theory_of graph) (completed_of r).place ≡ completed_of r
+pub pass_row : {graph never atom_never output work output' work' : List ℕ} {r : Completed} → Ready graph never atom_never output → length work ≡ 32768
+    → Completes edition1 graph never atom_never output work output' work' r → absorbed_row (theory_of graph) (completed_of r).place ≡ completed_of r
 unfolding bad_lengths
-pass_row {graph} {never} {atom_never} {output = output} {work = work} ready ho hw done =
+pass_row {graph} {never} {atom_never} {output} {work} ready hw done =
     let fit : bad_lengths graph (length never) (length atom_never) (length output) ≡ false =
-    rw (eq-eqb (length never) _ ready.node_words, eq-eqb (length atom_never) _ ready.atom_words, eq-eqb (length output) _ ho) in
+    rw (eq-eqb (length never) _ ready.node_words, eq-eqb (length atom_never) _ ready.atom_words, eq-eqb (length output) _ ready.output_words) in
     sym (last_row ready.accepted fit (work_fits edition1 graph (length work) hw) done)
 
 -- rows 1 to 10 accept, and so the answer is row 12's
@@ -62,23 +48,29 @@ pub answer_row : (graph masks : List ℕ) (p : ℕ) → graph_answer edition1 gr
 unfolding answer first_refusal
 answer_row graph masks p e h = rw (e, h) (absorbed_last (theory_of graph) p)
 
--- ---- the text
+-- ---- what is known before the text is written
 
-refused_text : (a : Answer) (both : List ℕ) (n p : ℕ) → n ≡ a.number → p ≡ a.place → (n ≡ 0 → ⊥) → refused_line n p ≡ text_by a both
-refused_text a both n p en ep h = rw (← en, ← ep, ne_eqb n 0 h)
+pub answer_eq : (a : Answer) {n p : ℕ} → n ≡ a.number → p ≡ a.place → refuse n p ≡ a
+answer_eq a en ep = rw (en, ep)
+
+pub answered_err : {answers : ℕ → Answer} {graph never atom_never output : List ℕ} {e : Refusal} {r : Result Bool Refusal} (p : ℕ) → r ≡ Err e → Refuses (answers p) e
+    → ((answers p).number ≡ 12 → Mem p (absorbed_in (theory_of graph))) → Answered answers graph never atom_never output r
+answered_err p k h m = rw k record { place = p; says = record { ok = tt; err = h }; absorbed = m; cycle = tt; listed = tt }
+
+-- the same answers, the same masks and the same output
+pub answered_same : {answers others : ℕ → Answer} {graph never atom_never output never' atom_never' output' : List ℕ} {r : Result Bool Refusal} → ((p : ℕ) → answers p ≡ others p)
+    → never' ≡ never → atom_never' ≡ atom_never → output ≡ output' → Answered others graph never' atom_never' output' r → Answered answers graph never atom_never output r
+answered_same e en ea eo t = rw (← en, ← ea, eo) record { place = t.place; says = rw (e t.place) t.says; absorbed = rw (e t.place) t.absorbed; cycle = t.cycle; listed = t.listed }
+
+-- ---- the text
 
 -- what is appended at 0 stands within the buffer
 append_within : {old text new : List ℕ} {r : ℕ} → Appended old 0 text new r → r ≤ length new
 append_within {text = text} {new = new} {r = r} a = omega (arith, a.end, sym (length-take r new) ∙ ap length a.text_there)
 
-pub print_refusal : {answers : ℕ → Answer} {both : List ℕ} {th : Theory} {old new : List ℕ} {r n q : ℕ} (a : Answer) (p : ℕ) → answers p ≡ a → n ≡ a.number → q ≡ a.place
-    → (n ≡ 0 → ⊥) → (a.number ≡ 12 → Mem p (absorbed_in th)) → Appended old 0 (refused_line n q) new r → Printed answers both th old new r
-print_refusal {both = both} {n = n} {q = q} a p e en eq h m t =
-    record { place = p; within = append_within t; exact = sym (length-take-le _ _ (append_within t)); text = t.text_there ∙ rw e (refused_text a both n q en eq h); behind = t.behind; absorbed = rw e m }
-
-pub print_both : {answers : ℕ → Answer} {both : List ℕ} {th : Theory} {old new text : List ℕ} {r : ℕ} (p : ℕ) → (answers p).number ≡ 0 → text ≡ both → Appended old 0 text new r
-    → Printed answers both th old new r
-print_both p e h t = record { place = p; within = append_within t; exact = sym (length-take-le _ _ (append_within t)); text = t.text_there ∙ rw (e, h); behind = t.behind; absorbed = λ g. absurd (omega (arith, e, g)) }
+pub print_both : {answers : ℕ → Answer} {graph never atom_never output both old new text : List ℕ} {r : ℕ} {yes : Bool} → Answered answers graph never atom_never output (Ok yes) → text ≡ both
+    → Appended old 0 text new r → Printed answers both (theory_of graph) old new r
+print_both a h t = record { place = a.place; within = append_within t; exact = sym (length-take-le _ _ (append_within t)); text = t.text_there ∙ rw (a.says.ok, h); behind = t.behind; absorbed = a.absorbed }
 
 pub lines_same : (graph never atom_never output : List ℕ) (cycle : Bool) (atoms : ℕ) → cycle ≡ has_cycle (theory_of graph) → atoms ≡ get_or graph 1 0
     → output ≡ pack (get_or graph 1 0) (missing (theory_of graph) (bit_at never) (bit_at atom_never))
@@ -123,6 +115,15 @@ pub graph_accepts : (graph : List ℕ) → (graph_answer edition1 graph).number 
 unfolding graph_answer
 graph_accepts graph e = accepts (graph_rows edition1 graph) e
 
+-- nothing refuses, and so the graph check does not
+pub answer_accepts : (graph masks : List ℕ) (p : ℕ) → (answer graph masks p).number ≡ 0 → graph_answer edition1 graph ≡ accept
+unfolding answer first_refusal
+answer_accepts graph masks p e = go (bool_cases (eqb (graph_answer edition1 graph).number 0))
+  where
+    go : (eqb (graph_answer edition1 graph).number 0 ≡ true) ⊎ (eqb (graph_answer edition1 graph).number 0 ≡ false) → graph_answer edition1 graph ≡ accept
+    go (inl t) = graph_accepts graph (eqb-true _ 0 t)
+    go (inr f) = absurd (eqb-false _ 0 f (rw f at e))
+
 pub answer_graph : (graph masks : List ℕ) (p : ℕ) (a : Answer) → graph_answer edition1 graph ≡ a → (a.number ≡ 0 → ⊥) → answer graph masks p ≡ a
 unfolding answer first_refusal
 answer_graph graph masks p a e h = rw (e, ne_eqb a.number 0 h)
@@ -130,6 +131,26 @@ answer_graph graph masks p a e h = rw (e, ne_eqb a.number 0 h)
 pub answer_masks : (graph masks : List ℕ) (p : ℕ) → graph_answer edition1 graph ≡ accept → bad_masks graph masks ≡ true → answer graph masks p ≡ refuse 10 0
 unfolding answer first_refusal
 answer_masks graph masks p e h = rw (e, h)
+
+-- the graph check's refusal is the program's
+pub answered_graph : {graph never atom_never output : List ℕ} {e : Refusal} {r : Result Bool Refusal} (masks : List ℕ) → r ≡ Err e → Says {A = Unit {0}} (graph_answer edition1 graph) (Err e)
+    → ((graph_answer edition1 graph).number ≡ 12 → ⊥) → Answered (answer graph masks) graph never atom_never output r
+answered_graph {graph} masks k says other =
+    let h = says.err in
+    let same = answer_graph graph masks 0 (graph_answer edition1 graph) refl (λ z. h.some (ap (λ (a : Answer). a.number) (sym h.same) ∙ z)) in
+    answered_err 0 k (rw same h) (λ z. absurd (other (rw same at z)))
+
+pub answered_masks : {graph never atom_never output : List ℕ} (masks : List ℕ) → graph_answer edition1 graph ≡ accept → bad_masks graph masks ≡ true
+    → Answered (answer graph masks) graph never atom_never output (Err record { number = 10; place = 0 })
+answered_masks {graph} masks e h =
+    let same = answer_masks graph masks 0 e h in
+    answered_err 0 refl (rw same record { same = refl; some = λ z. omega arith; number_low = omega arith; place_low = omega arith }) (λ z. absurd (omega (arith, ap (λ (a : Answer). a.number) same, z)))
+
+pub says_accepts : (graph : List ℕ) {u : Unit {0}} → Says (graph_answer edition1 graph) (Ok u) → graph_answer edition1 graph ≡ accept
+says_accepts graph says = graph_accepts graph says.ok
+
+pub answered_few : {graph never atom_never output : List ℕ} {yes : Bool} (masks : List ℕ) → Answered (answer graph masks) graph never atom_never output (Ok yes) → Few graph
+answered_few {graph} masks a = accepted_few graph (answer_accepts graph masks a.place a.says.ok)
 
 -- ---- the masks
 
@@ -141,18 +162,15 @@ masks_split graph masks r e h q =
     record { atoms = q; nodes = omega arith; atoms_few = omega arith; nodes_few = omega arith }
 
 module _ {graph masks : List ℕ} {r : ℕ} (s : Split graph masks r) where
-  pub front_length : length (take r masks) ≡ r
-  front_length = length-take-le r masks (omega (arith, s.nodes))
+  -- the words of the first part, and that there is room for them
+  pub atom_words : {n : ℕ} → n ≡ r / 8 → n ≡ words_of (get_or graph 1 0)
+  atom_words e = omega (arith, e, s.atoms)
 
-  pub rest_length : length (take (length masks - r) (drop r masks)) ≡ 8 * words_of (get_or graph 2 0)
-  rest_length = rw (rest_all masks r, length-drop) (omega (arith, s.nodes))
+  pub atom_room : {n : ℕ} → n ≡ r / 8 → n ≤ 16
+  atom_room e = omega (arith, e, s.atoms_few)
 
   pub atom_mask_lem : words 8 (take r masks) ≡ atom_mask graph masks
   atom_mask_lem = rw s.atoms
 
-  pub node_mask_lem : words 8 (take (length masks - r) (drop r masks)) ≡ node_mask graph masks
-  node_mask_lem = rw (rest_all masks r, s.atoms)
-
--- the same answers make the same text
-pub print_same : {answers others : ℕ → Answer} {both : List ℕ} {th : Theory} {old out : List ℕ} {r : ℕ} → ((p : ℕ) → answers p ≡ others p) → Printed others both th old out r → Printed answers both th old out r
-print_same e t = record { place = t.place; within = t.within; exact = t.exact; text = rw (e t.place) t.text; behind = t.behind; absorbed = rw (e t.place) t.absorbed }
+  pub node_mask_lem : words 8 (drop r masks) ≡ node_mask graph masks
+  node_mask_lem = rw s.atoms

@@ -7,7 +7,7 @@ use Rattle.theory.specs.Accepted.{edition1}
 use Rattle.theory.specs.Founded.{has_cycle, missing}
 use Rattle.theory.specs.Cases.{absorbed_in}
 use Rattle.mask.specs.Mask.{words_of}
-use Rattle.refusals.specs.Answer.{Answer, accept, refuse_if, first_refusal}
+use Rattle.refusals.specs.Answer.{Answer, refuse_if, first_refusal}
 use Rattle.refusals.specs.Refusals.{graph_answer}
 use Rattle.founded.specs.Answers.{absorbed_row}
 use Rattle.input.specs.Bytes.{words}
@@ -68,16 +68,6 @@ pub record Split (graph masks : List ℕ) (r : ℕ) : Type 0 where
   pub nodes : length masks ≡ r + node_bytes graph masks
   pub atoms_few : r ≤ 128
   pub nodes_few : node_bytes graph masks ≤ 128
-
--- what is known once the graph is accepted and the masks are decoded
-pub record Ready (graph never atom_never out : List ℕ) : Type 0 where
-  pub accepted : graph_answer edition1 graph ≡ accept
-  pub node_words : length never ≡ words_of (get_or graph 2 0)
-  pub atom_words : length atom_never ≡ words_of (get_or graph 1 0)
-  pub room : 6144 ≤ length out
-
-abbrev pub Passed : (graph never atom_never old out : List ℕ) (r : ℕ) → Type 0
-Passed graph never atom_never old out r = Printed (absorbed_row (theory_of graph)) (lines graph never atom_never) (theory_of graph) old out r
 
 abbrev pub ReportedOf : (graph masks old out : List ℕ) (r : ℕ) → Type 0
 ReportedOf graph masks old out r = Printed (answer graph masks) (lines graph (node_mask graph masks) (atom_mask graph masks)) (theory_of graph) old out r

@@ -1,80 +1,76 @@
 // The program's text: from standard input's bytes to the bytes that are written (document 01, "The program").
 #![tactic(auto)]
 
-ghost use Rattle.std.specs.Prelude.{◌≡◌, false, ◌≤◌, length, get_or};
+ghost use Rattle.std.specs.Prelude.{◌≡◌, ◌≢◌, false, ◌<◌, ◌≤◌, length, get_or, take};
 ghost use Rattle.theory.specs.Words.{theory_of};
 ghost use Rattle.theory.specs.Accepted.{edition1};
 ghost use Rattle.theory.specs.Founded.{has_cycle};
-ghost use Rattle.refusals.specs.Answer.{accept};
+ghost use Rattle.refusals.specs.Answer.{accept, refuse};
 ghost use Rattle.refusals.specs.Refusals.{graph_answer};
+ghost use Rattle.founded.specs.Answers.{absorbed_row};
 ghost use Rattle.mask.specs.Mask.{words_of};
-ghost use Rattle.report.specs.Report.{bad_masks, Split, Ready, Passed, ReportedOf, Reported};
+ghost use Rattle.report.specs.Report.{bad_masks, node_mask, atom_mask, answer as Report·answer, Split, ReportedOf, Reported};
+ghost use Rattle.report.specs.Answered.{Says, Ready, Answered};
 
 use cycles::Need;
+
+// What a refusal's line says. Both are numbers, as crate numbers lists them.
+#[derive(Clone, Copy)]
+struct Refusal {
+    number: usize,
+    place: usize,
+}
+
+// An answer's number and place as a refusal; number 0 is none.
+fn refused(number: usize, place: usize) -> Result<(), Refusal>
+    requires { (number < 65536) × (place < 65536) }
+    ensures { Says (refuse number place) result }
+{
+    if number == 0 {
+        Ok(())
+    } else {
+        Err(Refusal { number, place })
+    }
+}
 
 // The loop test on an accepted graph.
 fn loops(graph: &[u16], work: &mut [u16]) -> bool
     requires { (graph_answer edition1 graph.now ≡ accept) × (length work.old ≡ 32768) }
     ensures { result ≡ has_cycle (theory_of graph.now) }
 {
-    match cycles::needed(graph, work) {
-        Need::Yes => true,
-        Need::No => false,
-        Need::Refused(_) => false,
-        Need::Work => false,
-    }
+    matches!(cycles::needed(graph, work), Need::Yes)
 }
 
-// The loop test and the pass, in lent memory.
-fn report_pass(
+// The loop test and the pass: whether there is a loop, and in `output` the missing atoms.
+fn pass(
     graph: &[u16],
     never: &[u64],
     atom_never: &[u64],
     output: &mut [u64],
-    work: &mut [u16],
-    out: &mut [u8],
-) -> usize
-    requires ready { Ready graph.now never.now atom_never.now out.old }
-    requires output_len { (length output.old ≡ words_of (get_or graph.now 1 0)) × (length work.old ≡ 32768) }
-    ensures { Passed graph.now never.now atom_never.now out.old out.new result }
+) -> Result<bool, Refusal>
+    requires { Ready graph.now never.now atom_never.now output.old }
+    ensures { Answered (absorbed_row (theory_of graph.now)) graph.now never.now atom_never.now output.new result }
 {
-    let cycle = loops(graph, work);
-    let completed = founded::complete(graph, never, atom_never, output, work);
-    let number = numbers::completed_number(completed);
-    if number != 0 {
-        return text::put_refusal(out, number, numbers::completed_place(completed));
-    }
-    text::put_lines(out, cycle, output, graph::atoms(graph))
-}
-
-fn report_words(graph: &[u16], never: &[u64], atom_never: &[u64], out: &mut [u8]) -> usize
-    requires { Ready graph.now never.now atom_never.now out.old }
-    ensures { Passed graph.now never.now atom_never.now out.old out.new result }
-{
-    let mut output = [0u64; 16];
     let mut work = [0u16; 32768];
-    let n = atom_never.len();
-    report_pass(graph, never, atom_never, &mut output[..n], &mut work, out)
+    let cycle = loops(graph, &mut work);
+    let completed = founded::complete(graph, never, atom_never, output, &mut work);
+    refused(
+        numbers::completed_number(completed),
+        numbers::completed_place(completed),
+    )?;
+    Ok(cycle)
 }
 
-fn atom_bytes(graph: &[u16], masks: &[u8]) -> usize
-    requires { (graph_answer edition1 graph.now ≡ accept) × (bad_masks graph.now masks.now ≡ false) }
-    ensures { Split graph.now masks.now result }
+// Rows 1 to 9 and 14.
+fn check(graph: &[u16]) -> Result<(), Refusal>
+    ensures says { Says (graph_answer edition1 graph.now) result }
+    ensures other { (graph_answer edition1 graph.now).number ≢ 12 }
 {
-    8 * mask::words(graph::atoms(graph))
-}
-
-// The masks of an accepted graph: first the atom mask, and the rest is the node mask.
-fn report_masks(graph: &[u16], masks: &[u8], out: &mut [u8]) -> usize
-    requires { (graph_answer edition1 graph.now ≡ accept) × (bad_masks graph.now masks.now ≡ false) × (6144 ≤ length out.old) }
-    ensures { ReportedOf graph.now masks.now out.old out.new result }
-{
-    let mut atom_never = [0u64; 16];
-    let mut never = [0u64; 16];
-    let from = atom_bytes(graph, masks);
-    let atoms = input::mask_words(&masks[..from], &mut atom_never);
-    let nodes = input::mask_words(&masks[from..], &mut never);
-    report_words(graph, &never[..nodes], &atom_never[..atoms], out)
+    let checked = checking::check(graph);
+    refused(
+        numbers::checked_number(checked),
+        numbers::checked_place(checked),
+    )
 }
 
 // Row 10, of the bytes of both masks.
@@ -85,35 +81,59 @@ fn bad_masks(graph: &[u16], masks: &[u8]) -> bool
     masks.len() != 8 * mask::words(graph::atoms(graph)) + 8 * mask::words(graph::nodes(graph))
 }
 
+// How many bytes the atom mask has.
+fn atom_bytes(graph: &[u16], masks: &[u8]) -> usize
+    requires { (graph_answer edition1 graph.now ≡ accept) × (bad_masks graph.now masks.now ≡ false) }
+    ensures { Split graph.now masks.now result }
+{
+    8 * mask::words(graph::atoms(graph))
+}
+
+// The program's answer. Of the masks' bytes the first are the atom mask, and the rest is the node mask.
+fn answer(graph: &[u16], masks: &[u8], output: &mut [u64; 16]) -> Result<bool, Refusal>
+    ensures { Answered (Report·answer graph.now masks.now) graph.now (node_mask graph.now masks.now) (atom_mask graph.now masks.now) (take (words_of (get_or graph.now 1 0)) output.new) result }
+{
+    check(graph)?;
+    if bad_masks(graph, masks) {
+        return Err(Refusal {
+            number: 10,
+            place: 0,
+        });
+    }
+    let (atom_part, node_part) = masks.split_at(atom_bytes(graph, masks));
+    let mut atom_never = [0u64; 16];
+    let mut never = [0u64; 16];
+    let atoms = input::words(atom_part, &mut atom_never);
+    let nodes = input::words(node_part, &mut never);
+    pass(
+        graph,
+        &never[..nodes],
+        &atom_never[..atoms],
+        &mut output[..atoms],
+    )
+}
+
 // The graph's words and the bytes after them.
 fn report_graph(graph: &[u16], masks: &[u8], out: &mut [u8]) -> usize
     requires { 6144 ≤ length out.old }
     ensures { ReportedOf graph.now masks.now out.old out.new result }
 {
-    let checked = checking::check(graph);
-    let number = numbers::checked_number(checked);
-    if number != 0 {
-        return text::put_refusal(out, number, numbers::checked_place(checked));
+    let mut output = [0u64; 16];
+    match answer(graph, masks, &mut output) {
+        Ok(cycle) => {
+            let atoms = graph::atoms(graph);
+            text::put_lines(out, cycle, &output[..mask::words(atoms)], atoms)
+        }
+        Err(refusal) => text::put_refusal(out, refusal.number, refusal.place),
     }
-    if bad_masks(graph, masks) {
-        return text::put_refusal(out, 10, 0);
-    }
-    report_masks(graph, masks, out)
 }
 
-fn report_input(input: &[u8], out: &mut [u8]) -> usize
-    requires { 6144 ≤ length out.old }
-    ensures { Reported input.now out.old out.new result }
-{
-    let mut graph = [0u16; 13317];
-    let bytes = input::graph_bytes(input);
-    let words = input::graph_words(&input[..bytes], &mut graph);
-    report_graph(&graph[..words], &input[bytes..], out)
-}
-
-// The text for standard input's bytes: how many bytes of `out` it takes.
+// The text for standard input's bytes, in lent memory (no heap): how many bytes of `out` it takes.
 pub fn report(input: &[u8], out: &mut [u8; 6144]) -> usize
     ensures { Reported input.now out.old out.new result }
 {
-    report_input(input, out)
+    let mut graph = [0u16; 13317];
+    let (bytes, masks) = input.split_at(input::graph_bytes(input));
+    let words = input::words(bytes, &mut graph);
+    report_graph(&graph[..words], masks, out)
 }

@@ -2,66 +2,53 @@
 use mathlib.Core.Path.{◌≡◌, refl, sym, ◌∙◌}
 use mathlib.Core.Bool.{Bool, true, false, cond}
 use mathlib.Core.List.{List, [], ◌∷◌, ◌++◌, append_assoc, append-nil}
-use Prim.Native.Nat.{ℕ, zero, suc, ◌+◌, ◌/◌, ◌%◌, ◌*◌, ◌≤◌, ◌<◌}
-use native.Mathlib.Nat.{not-suc-le-zero, add-zero, add_assoc}
+use Prim.Native.Nat.{ℕ, zero, suc, ◌+◌, ◌*◌, ◌≤◌, ◌<◌, ◌^◌}
+use native.Mathlib.Nat.{add-zero}
 use native.Mathlib.Numerals.{add-one}
 use native.Mathlib.Omega.{arith}
-use native.Mathlib.Decide.{dec_lt}
-use lib.ListN.{length, take, set, get_or, length-append}
-use lib.Seq.{take-suc-set, take-suc, take_all, drop-set-lt, drop-drop}
+use lib.ListN.{length, take, length-append}
+use lib.Seq.{drop-drop}
 use borrow.Author.Tests.{lt-ltb, le-ltb}
+use borrow.Rule.Slice.PartMut.{put_mid}
+use Rattle.std.specs.List.{count_by, fold, range_with_len}
+use Rattle.std.specs.Fmt.{decimal as Fmt·decimal}
+use Rattle.std.proofs.lemmas.Fmt.{AppendsLastDigit, decimal_from_appends, length-decimal-le, length-decimal-le_succ}
+use Rattle.std.proofs.lemmas.Slice.{take-put_mid, drop-put_mid}
 use Rattle.theory.specs.Sets.{Set, members}
 use Rattle.mask.specs.Mask.{digit}
 use Rattle.mask.proofs.BitLaws.{digit_small}
 use Rattle.text.specs.Text.{digits_in, decimal, spaced, line, only, loops_line, Appended}
 
--- any fuel above the number gives the same digits
-digits_fuel : (k j n : ℕ) → n < k → n < j → digits_in k n ≡ digits_in j n
+-- the digits are those that the library writes
+digits_append : AppendsLastDigit digits_in
 unfolding digits_in
-digits_fuel zero j n h g = absurd (not-suc-le-zero h)
-digits_fuel (suc k) zero n h g = absurd (not-suc-le-zero g)
-digits_fuel (suc k) (suc j) n h g = go (dec_lt n 10) (λ x y. digits_fuel k j (n / 10) x y)
-  where
-    go : Dec (n < 10) → (n / 10 < k → n / 10 < j → digits_in k (n / 10) ≡ digits_in j (n / 10)) → digits_in (suc k) n ≡ digits_in (suc j) n
-    go (yes l) rest = rw (lt-ltb n 10 l)
-    go (no l) rest = rw (rest (omega arith) (omega arith))
+digits_append = record { one = λ k n h. rw (lt-ltb n 10 h); more = λ k n h. rw (le-ltb n 10 h) }
 
-pub decimal_digit : (n : ℕ) → n < 10 → decimal n ≡ (48 + n) ∷ []
-unfolding decimal digits_in
-decimal_digit n h = rw (lt-ltb n 10 h)
+decimal_library : (n : ℕ) → n < 2 ^ 64 → decimal n ≡ Fmt·decimal n
+unfolding decimal
+decimal_library n h = decimal_from_appends digits_in digits_append (suc n) n h (omega (arith, length-decimal-le_succ n h))
 
-pub decimal_more : (n : ℕ) → 10 ≤ n → decimal n ≡ decimal (n / 10) ++ ((48 + n % 10) ∷ [])
-unfolding decimal digits_in
-decimal_more n h = rw (le-ltb n 10 h, digits_fuel n (suc (n / 10)) (n / 10) (omega arith) (omega arith))
-
-pub digit_length : (n : ℕ) → n < 10 → length (decimal n) ≡ 1
-digit_length n h = rw (decimal_digit n h)
-
-pub more_length : (n : ℕ) → 10 ≤ n → length (decimal n) ≡ length (decimal (n / 10)) + 1
-more_length n h = rw (decimal_more n h, length-append)
-
--- one digit more than its tenth has, at most
-decimal_tenth : (n k : ℕ) → length (decimal (n / 10)) ≤ k → length (decimal n) ≤ suc k
-decimal_tenth n k h = go (dec_lt n 10)
-  where
-    go : Dec (n < 10) → length (decimal n) ≤ suc k
-    go (yes l) = omega (arith, digit_length n l)
-    go (no l) = let m : 10 ≤ n = omega arith in omega (arith, more_length n m)
+-- the bytes of the text that the library formats
+pub number_text : (n : ℕ) {bytes text : List ℕ} → n < 2 ^ 64 → bytes ≡ text → text ≡ Fmt·decimal n → bytes ≡ decimal n
+number_text n h b t = b ∙ t ∙ sym (decimal_library n h)
 
 pub decimal_four : (n : ℕ) → n < 10000 → length (decimal n) ≤ 4
-decimal_four n h =
-    decimal_tenth n 3 (decimal_tenth (n / 10) 2 (decimal_tenth (n / 10 / 10) 1 (let m : n / 10 / 10 / 10 < 10 = omega arith in omega (arith, digit_length (n / 10 / 10 / 10) m))))
+decimal_four n h = rw (decimal_library n (omega arith)) (length-decimal-le 4 n (omega arith) h (omega arith))
 
 pub decimal_five : (n : ℕ) → n < 100000 → length (decimal n) ≤ 5
-decimal_five n h = decimal_tenth n 4 (decimal_four (n / 10) (omega arith))
+decimal_five n h = rw (decimal_library n (omega arith)) (length-decimal-le 5 n (omega arith) h (omega arith))
 
 -- ---- appending
 
 pub append_none : (old : List ℕ) (at : ℕ) → Appended old at [] old at
 append_none old at = record { end = omega arith; text_there = sym (append-nil (take at old)); behind = refl }
 
-pub append_byte : (old : List ℕ) (at b : ℕ) → at < length old → Appended old at (b ∷ []) (set old at b) (at + 1)
-append_byte old at b h = record { end = refl; text_there = rw (add-one, take-suc-set old at b h); behind = drop-set-lt (at + 1) old at b (omega arith) }
+pub append_text : (old : List ℕ) (at : ℕ) (text : List ℕ) → at + length text ≤ length old → Appended old at text (put_mid at (length text) old text) (at + length text)
+append_text old at text h = record {
+  end = refl;
+  text_there = take-put_mid at (length text) old text (at + length text) refl (omega arith);
+  behind = drop-put_mid at (length text) old text (at + length text) (omega arith) (omega arith) refl;
+}
 
 pub append_then : {old mid new s t : List ℕ} {at m r : ℕ} → Appended old at s mid m → Appended mid m t new r → Appended old at (s ++ t) new r
 append_then {old} {mid} {new} {s} {t} {at} {m} {r} p q = record {
@@ -69,18 +56,6 @@ append_then {old} {mid} {new} {s} {t} {at} {m} {r} p q = record {
   text_there = q.text_there ∙ rw (p.text_there, append_assoc);
   behind = q.behind ∙ rw (q.end, ← drop-drop (length t) m mid, ← drop-drop (length t) m old, p.behind);
 }
-
--- a text, byte by byte
-pub append_start : (old : List ℕ) (at : ℕ) (text : List ℕ) → Appended old at (take 0 text) old (at + 0)
-append_start old at text = rw add-zero (append_none old at)
-
-pub append_next : {old out : List ℕ} (at : ℕ) (text : List ℕ) (i : ℕ) → Appended old at (take i text) out (at + i) → i < length text → at + i < length out
-    → Appended old at (take (i + 1) text) (set out (at + i) (get_or text i 0)) (at + (i + 1))
-append_next {old} {out} at text i p h g =
-    rw (add-one, take-suc text i 0 h, ← add-one, ← add_assoc) (append_then p (append_byte out (at + i) (get_or text i 0) g))
-
-pub append_whole : {old out : List ℕ} (at : ℕ) (text : List ℕ) (i : ℕ) → Appended old at (take i text) out (at + i) → length text ≤ i → Appended old at text out (at + i)
-append_whole {old} {out} at text i p h = rw (take_all i text h) at p
 
 -- ---- numbers after a word
 
@@ -111,6 +86,18 @@ append_line word l p q = append_then p q
 
 -- ---- the members of a set
 
+-- a fold over a range ends with its last number
+fold_range : (f : ℕ → ℕ → ℕ) (z a n : ℕ) → fold f z (range_with_len a (suc n)) ≡ f (fold f z (range_with_len a n)) (a + n)
+fold_range f z a zero = rw add-zero
+fold_range f z a (suc n) = let e : a + 1 + n ≡ a + suc n = omega arith in fold_range f (f z a) (a + 1) n ∙ rw e
+
+digit_one : (b : Bool) → cond b 1 0 ≡ digit b
+digit_one true = refl
+digit_one false = refl
+
+count_more : (n : ℕ) (s : Set) → count_by s (range_with_len 0 (suc n)) ≡ count_by s (range_with_len 0 n) + digit (s n)
+count_more n s = let e : 0 + n ≡ n = omega arith in rw (← digit_one (s n)) (rw e at (fold_range (λ k i. k + cond (s i) 1 0) 0 0 n))
+
 pub members_next : (n : ℕ) (s : Set) → members (n + 1) s ≡ members n s ++ only (s n) n
 unfolding members
 members_next n s = rw add-one (go (s n))
@@ -125,6 +112,11 @@ only_length false n = refl
 
 pub count_next : (n : ℕ) (s : Set) → length (members n s) + digit (s n) ≡ length (members (n + 1) s)
 count_next n s = rw (members_next, length-append, only_length)
+
+pub count_members : (n : ℕ) (s : Set) → count_by s (range_with_len 0 n) ≡ length (members n s)
+unfolding members
+count_members zero s = refl
+count_members (suc n) s = rw (count_more, count_members n s) (count_next n s ∙ rw add-one)
 
 pub count_few : (n : ℕ) (s : Set) → length (members n s) ≤ n
 unfolding members

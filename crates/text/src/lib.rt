@@ -2,28 +2,20 @@
 #![tactic(auto)]
 
 ghost use Rattle.std.specs.Prelude.{◌≡◌, [], ◌∷◌, ◌++◌, ◌+◌, ◌*◌, ◌<◌, ◌≤◌, length};
+ghost use Rattle.std.specs.List.{count_by, range_with_len};
 ghost use Rattle.theory.specs.Sets.{members};
 ghost use Rattle.theory.specs.Words.{bit_at};
-ghost use Rattle.text.specs.Text.{decimal, spaced, only, refused_line, loops_line, missing_line, Appended};
+ghost use Rattle.text.specs.Text.{decimal, spaced, refused_line, loops_line, missing_line, Appended};
 
-fn put(out: &mut [u8], at: usize, byte: u8) -> usize
-    requires { at < length out.old }
-    ensures { Appended out.old at (byte ∷ []) out.new result }
-{
-    out[at] = byte;
-    at + 1
-}
-
-fn put_text(out: &mut [u8], at: usize, text: &[u8]) -> usize
+// The text, at `at`, and where it ends. `out` and `at` are no struct: one that holds a `&mut` needs a clause more in each of these contracts, that it still
+// holds the same one.
+fn put(out: &mut [u8], at: usize, text: &[u8]) -> usize
     requires { at + length text.now ≤ length out.old }
     ensures { Appended out.old at text.now out.new result }
 {
-    let mut i: usize = 0;
-    while i < text.len() {
-        out[at + i] = text[i];
-        i += 1;
-    }
-    at + i
+    let end = at + text.len();
+    out[at..end].copy_from_slice(text);
+    end
 }
 
 // In decimal.
@@ -31,11 +23,7 @@ fn put_number(out: &mut [u8], at: usize, n: usize) -> usize
     requires { at + length (decimal n) ≤ length out.old }
     ensures { Appended out.old at (decimal n) out.new result }
 {
-    if n < 10 {
-        return put(out, at, 48 + n as u8);
-    }
-    let last = put_number(out, at, n / 10);
-    put(out, last, 48 + (n % 10) as u8)
+    put(out, at, itoa::Buffer::new().format(n).as_bytes())
 }
 
 // A space, and the number.
@@ -43,7 +31,7 @@ fn put_spaced(out: &mut [u8], at: usize, n: usize) -> usize
     requires { at + (1 + length (decimal n)) ≤ length out.old }
     ensures { Appended out.old at (32 ∷ decimal n) out.new result }
 {
-    let next = put(out, at, b' ');
+    let next = put(out, at, b" ");
     put_number(out, next, n)
 }
 
@@ -52,44 +40,25 @@ pub fn put_refusal(out: &mut [u8], number: usize, place: usize) -> usize
     requires { (number < 65536) × (place < 65536) × (20 ≤ length out.old) }
     ensures { Appended out.old 0 (refused_line number place) out.new result }
 {
-    let word = put_text(out, 0, b"refused");
+    let word = put(out, 0, b"refused");
     let first = put_spaced(out, word, number);
     let second = put_spaced(out, first, place);
-    put(out, second, b'\n')
+    put(out, second, b"\n")
 }
 
 fn put_loops(out: &mut [u8], cycle: bool) -> usize
     requires { 10 ≤ length out.old }
     ensures { Appended out.old 0 (loops_line cycle) out.new result }
 {
-    if cycle {
-        return put_text(out, 0, b"loops yes\n");
-    }
-    put_text(out, 0, b"loops no\n")
+    let line: &[u8] = if cycle { b"loops yes\n" } else { b"loops no\n" };
+    put(out, 0, line)
 }
 
 // How many of the first n bits are set.
 fn count(mask: &[u64], n: usize) -> usize
-    ensures { result ≡ length (members n (bit_at mask.now)) }
+    ensures { result ≡ count_by (bit_at mask.now) (range_with_len 0 n) }
 {
-    let mut set: usize = 0;
-    let mut i: usize = 0;
-    while i < n {
-        set += mask::bit(mask, i) as usize;
-        i += 1;
-    }
-    set
-}
-
-// The number, if its bit is set.
-fn put_bit(out: &mut [u8], at: usize, mask: &[u64], i: usize) -> usize
-    requires { at + (1 + length (decimal i)) ≤ length out.old }
-    ensures { Appended out.old at (spaced (only (bit_at mask.now i) i)) out.new result }
-{
-    if mask::bit(mask, i) {
-        return put_spaced(out, at, i);
-    }
-    at
+    (0..n).filter(|&i| mask::bit(mask, i)).count()
 }
 
 // The numbers below n whose bits are set, ascending.
@@ -98,10 +67,10 @@ fn put_bits(out: &mut [u8], at: usize, mask: &[u64], n: usize) -> usize
     ensures { Appended out.old at (spaced (members n (bit_at mask.now))) out.new result }
 {
     let mut next = at;
-    let mut i: usize = 0;
-    while i < n {
-        next = put_bit(out, next, mask, i);
-        i += 1;
+    for i in 0..n {
+        if mask::bit(mask, i) {
+            next = put_spaced(out, next, i);
+        }
     }
     next
 }
@@ -111,10 +80,10 @@ fn put_missing(out: &mut [u8], at: usize, mask: &[u64], atoms: usize) -> usize
     requires { (atoms ≤ 1024) × (at + 14 + 5 * atoms ≤ length out.old) }
     ensures { Appended out.old at (missing_line (members atoms (bit_at mask.now))) out.new result }
 {
-    let word = put_text(out, at, b"missing");
+    let word = put(out, at, b"missing");
     let first = put_spaced(out, word, count(mask, atoms));
     let last = put_bits(out, first, mask, atoms);
-    put(out, last, b'\n')
+    put(out, last, b"\n")
 }
 
 // Both lines.
