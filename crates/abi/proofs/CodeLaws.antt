@@ -1,6 +1,6 @@
 -- A code that is made of an answer's number and place tells the answer (`told`). The loop test's number (`needed_told`): it tells the outcome, and on success it is 1 exactly if there is a closed walk. How many words the work area has: `words_refused`, `words_accepted`.
 use mathlib.Core.Path.{◌≡◌, refl, sym, ap, ◌∙◌}
-use mathlib.Core.Logic.{◌↔◌, ◌≢◌}
+use mathlib.Core.Logic.{◌↔◌}
 use mathlib.Core.Bool.{Bool, true, false, not, cond, true≢false}
 use mathlib.Core.List.{List}
 use Prim.Native.Nat.{ℕ, ◌<◌}
@@ -12,12 +12,11 @@ use Rattle.theory.specs.Words.{theory_of}
 use Rattle.theory.specs.Accepted.{Edition, area_of}
 use Rattle.theory.specs.Founded.{has_cycle}
 use Rattle.refusals.specs.Answer.{Answer, accept, refuse, refuse_if}
-use Rattle.refusals.specs.Refusals.{graph_answer, answer_of}
-use Rattle.refusals.specs.declared.Checked.{Checked}
-use Rattle.refusals.specs.declared.Checked.TheVariants.{Accepted}
+use Rattle.refusals.specs.Refusals.{graph_answer, refused_as}
+use Rattle.refusals.specs.declared.Refusal.{Refusal}
+use Rattle.refusals.proofs.RefusedLaws.{number_some}
 use Rattle.refusals.proofs.PlaceLaws.{if_place, or_place, graph_place}
 use Rattle.cycles.specs.Outcome.{Outcome, refused, loops, refusal, outcome, work_after, ClosedWalk}
-use Rattle.founded.proofs.OutcomeLaws.{graph_number}
 use Rattle.abi.specs.Codes.{Tells, NeedTells, Placed, Needed, work_words}
 
 pub told : {lim : ℕ} {a : Answer} {n p r : ℕ} → n ≡ a.number → p ≡ a.place → Tells lim (refuse n p) r → Tells lim a r
@@ -56,8 +55,8 @@ module _ (lim : ℕ) (ed : Edition) where
 -- ---- the length of the work area
 
 module _ (ed : Edition) (graph : List ℕ) where
-  pub words_refused : {c : Checked} → answer_of c ≡ graph_answer ed graph → c ≢ Accepted → 0 ≡ work_words ed graph
-  words_refused {c} e n = rw (← e, (graph_number c n).0) refl
+  pub words_refused : (e : Refusal) → refused_as e ≡ graph_answer ed graph → 0 ≡ work_words ed graph
+  words_refused e q = rw (← q, number_some e) refl
 
   pub words_accepted : {r : ℕ} → graph_answer ed graph ≡ accept → r ≡ area_of ed (theory_of graph) → r ≡ work_words ed graph
   words_accepted e q = q ∙ sym (ap (λ (a : Answer). cond (eqb a.number 0) (area_of ed (theory_of graph)) 0) e)

@@ -1,14 +1,13 @@
 -- An answer as one number, and what each call promises of the number that it returns. lim is the number of values of a graph's word: 65,536 for words of 16 bits,
 -- whose codes have 32 bits, and 4,294,967,296 for words of 32 bits, whose codes have 64.
-use Rattle.std.specs.Prelude.{◌≡◌, ◌↔◌, cond, List, ℕ, ◌+◌, ◌*◌, ◌<◌, eqb}
+use Rattle.std.specs.Prelude.{◌≡◌, ◌↔◌, cond, List, ℕ, ◌+◌, ◌*◌, ◌<◌, eqb, Result}
 use Rattle.theory.specs.Words.{theory_of}
 use Rattle.theory.specs.Accepted.{Edition, area_of}
 use Rattle.refusals.specs.Answer.{Answer}
 use Rattle.refusals.specs.Refusals.{graph_answer}
 use Rattle.cycles.specs.Outcome.{Outcome, refused, loops, refusal, outcome, work_after, ClosedWalk}
-use Rattle.founded.specs.Answers.{prepared_of, completed_of, Prepares, Completes}
-use Rattle.founded.specs.declared.Prepared.{Prepared}
-use Rattle.founded.specs.declared.Completed.{Completed}
+use Rattle.founded.specs.Answers.{call_of, Prepares, Completes}
+use Rattle.founded.specs.declared.CallError.{CallError}
 
 -- the number of the refusal in the high half and its place in the low one; success is 0
 abbrev pub code_of : (lim : ℕ) → Answer → ℕ
@@ -36,13 +35,13 @@ module _ (lim : ℕ) (ed : Edition) where
 
   -- preparation and pass: r is the code of an answer that keeps the call's promise
   pub record PreparedAs (graph output work output' work' : List ℕ) (r : ℕ) : Type 0 where
-    pub answer : Prepared
-    pub told : Tells lim (prepared_of answer) r
+    pub answer : Result (Unit {0}) CallError
+    pub told : Tells lim (call_of answer) r
     pub holds : Prepares ed graph output work output' work' answer
 
   pub record CompletedAs (graph never atom_never output work output' work' : List ℕ) (r : ℕ) : Type 0 where
-    pub answer : Completed
-    pub told : Tells lim (completed_of answer) r
+    pub answer : Result (Unit {0}) CallError
+    pub told : Tells lim (call_of answer) r
     pub holds : Completes ed graph never atom_never output work output' work' answer
 
 -- how many words the work area of an accepted graph has; 0 for a graph that is refused

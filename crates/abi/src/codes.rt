@@ -3,14 +3,14 @@
 ghost use Rattle.std.specs.Prelude.{ℕ, ◌<◌, ◌≤◌};
 ghost use Rattle.std.proofs.Common.{arith};
 ghost use Rattle.refusals.specs.Answer.{refuse};
-ghost use Rattle.refusals.specs.Refusals.{answer_of};
+ghost use Rattle.refusals.specs.Refusals.{refused_as, answer_of};
 ghost use Rattle.cycles.specs.Outcome.{outcome_of};
-ghost use Rattle.founded.specs.Answers.{prepared_of, completed_of};
+ghost use Rattle.founded.specs.Answers.{call_of};
 ghost use Rattle.abi.specs.Codes.{Tells, NeedTells, Placed};
 
-use cycles::Need;
-use founded::{Completed, Prepared};
-use refusals::Checked;
+use cycles::NeedError;
+use founded::CallError;
+use refusals::Refusal;
 
 pub trait Code: Copy {
     ghost value: { Self → ℕ };
@@ -49,41 +49,42 @@ impl Code for u64 {
     }
 }
 
-pub fn checked_code<C: Code>(c: Checked) -> C
-    requires { (answer_of c).place < C.limit }
-    ensures { Tells C.limit (answer_of c) (C.value result) }
+fn refusal_code<C: Code>(e: Refusal) -> C
+    requires { (refused_as e).place < C.limit }
+    ensures { Tells C.limit (refused_as e) (C.value result) }
 {
-    C::of(numbers::checked_number(c), numbers::checked_place(c))
+    C::of(numbers::refusal_number(e), numbers::refusal_place(e))
 }
 
-pub fn needed_code<C: Code>(n: Need) -> C
-    requires { Placed C.limit (outcome_of n) }
-    ensures { NeedTells C.limit (outcome_of n) (C.value result) }
+pub fn checked_code<C: Code>(checked: Result<(), Refusal>) -> C
+    requires { (answer_of checked).place < C.limit }
+    ensures { Tells C.limit (answer_of checked) (C.value result) }
 {
-    match n {
-        Need::No => C::of(0, 0),
-        Need::Yes => C::of(0, 1),
-        Need::Refused(c) => checked_code(c),
-        Need::Work => C::of(11, 0),
+    match checked {
+        Ok(()) => C::of(0, 0),
+        Err(e) => refusal_code(e),
     }
 }
 
-pub fn prepared_code<C: Code>(p: Prepared) -> C
-    requires { (prepared_of p).place < C.limit }
-    ensures { Tells C.limit (prepared_of p) (C.value result) }
+pub fn needed_code<C: Code>(needed: Result<bool, NeedError>) -> C
+    requires { Placed C.limit (outcome_of needed) }
+    ensures { NeedTells C.limit (outcome_of needed) (C.value result) }
 {
-    match p {
-        Prepared::Done => C::of(0, 0),
-        Prepared::Refused(c) => checked_code(c),
-        Prepared::Output => C::of(10, 0),
-        Prepared::Work => C::of(11, 0),
-        Prepared::Absorbed(n) => C::of(12, n),
+    match needed {
+        Ok(false) => C::of(0, 0),
+        Ok(true) => C::of(0, 1),
+        Err(NeedError::Refused(e)) => refusal_code(e),
+        Err(NeedError::Work) => C::of(11, 0),
     }
 }
 
-pub fn completed_code<C: Code>(c: Completed) -> C
-    requires { (completed_of c).place < C.limit }
-    ensures { Tells C.limit (completed_of c) (C.value result) }
+// Preparation and pass.
+pub fn call_code<C: Code>(answered: Result<(), CallError>) -> C
+    requires { (call_of answered).place < C.limit }
+    ensures { Tells C.limit (call_of answered) (C.value result) }
 {
-    C::of(numbers::completed_number(c), numbers::completed_place(c))
+    match answered {
+        Ok(()) => C::of(0, 0),
+        Err(e) => C::of(numbers::call_number(e), numbers::call_place(e)),
+    }
 }

@@ -4,16 +4,14 @@ ghost use Rattle.theory.specs.Accepted.{edition2};
 ghost use Rattle.abi.specs.Codes.{work_words};
 
 use area::length::Area;
-use refusals::Checked;
 
 // Its words; 0 for a graph that is refused.
 #[unsafe(no_mangle)]
 pub extern "C" fn founded_wide_work_words(graph: &[u32]) -> u64
     ensures { result ≡ work_words edition2 graph.now }
 {
-    let checked = checking::check(graph);
-    let Checked::Accepted = checked else {
-        return 0;
-    };
-    u32::area_words(graph) as u64
+    match checking::check(graph) {
+        Ok(()) => u32::area_words(graph) as u64,
+        Err(_) => 0,
+    }
 }

@@ -10,7 +10,7 @@ ghost use Rattle.theory.specs.Accepted.{edition1};
 ghost use Rattle.refusals.specs.Refusals.{graph_answer};
 ghost use Rattle.abi.specs.Codes.{Tells, Needed, PreparedAs, CompletedAs};
 
-use crate::codes::{checked_code, completed_code, needed_code, prepared_code};
+use crate::codes::{call_code, checked_code, needed_code};
 
 // The graph check.
 #[unsafe(no_mangle)]
@@ -33,7 +33,7 @@ pub extern "C" fn founded_needed(graph: &[u16], work: &mut [u16]) -> u32
 pub extern "C" fn founded_prepare(graph: &[u16], output: &mut [u64], work: &mut [u16]) -> u32
     ensures { PreparedAs 65536 edition1 graph.now output.old work.old output.new work.new result }
 {
-    prepared_code(founded::prepare(graph, output, work))
+    call_code(founded::prepare(graph, output, work))
 }
 
 // The pass: the missing atoms.
@@ -47,5 +47,5 @@ pub extern "C" fn founded_complete(
 ) -> u32
     ensures { CompletedAs 65536 edition1 graph.now never.now atom_never.now output.old work.old output.new work.new result }
 {
-    completed_code(founded::complete(graph, never, atom_never, output, work))
+    call_code(founded::complete(graph, never, atom_never, output, work))
 }

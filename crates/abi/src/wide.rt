@@ -3,7 +3,7 @@ ghost use Rattle.theory.specs.Accepted.{edition2};
 ghost use Rattle.refusals.specs.Refusals.{graph_answer};
 ghost use Rattle.abi.specs.Codes.{Tells, Needed, PreparedAs, CompletedAs};
 
-use crate::codes::{checked_code, completed_code, needed_code, prepared_code};
+use crate::codes::{call_code, checked_code, needed_code};
 
 // The graph check.
 #[unsafe(no_mangle)]
@@ -26,7 +26,7 @@ pub extern "C" fn founded_wide_needed(graph: &[u32], work: &mut [u32]) -> u64
 pub extern "C" fn founded_wide_prepare(graph: &[u32], output: &mut [u64], work: &mut [u32]) -> u64
     ensures { PreparedAs 4294967296 edition2 graph.now output.old work.old output.new work.new result }
 {
-    prepared_code(founded::prepare(graph, output, work))
+    call_code(founded::prepare(graph, output, work))
 }
 
 // The pass: the missing atoms.
@@ -40,5 +40,5 @@ pub extern "C" fn founded_wide_complete(
 ) -> u64
     ensures { CompletedAs 4294967296 edition2 graph.now never.now atom_never.now output.old work.old output.new work.new result }
 {
-    completed_code(founded::complete(graph, never, atom_never, output, work))
+    call_code(founded::complete(graph, never, atom_never, output, work))
 }

@@ -1,6 +1,6 @@
 -- The rows that an item is in, as the graph's words give them, and that the tables of an accepted graph fit a word and their parts.
 use mathlib.Core.Path.{◌≡◌, refl, sym, ap, ◌∙◌}
-use mathlib.Core.Logic.{◌⊎◌, inl, inr, ◌≢◌}
+use mathlib.Core.Logic.{◌⊎◌, inl, inr}
 use mathlib.Core.Bool.{Bool, true, false, cond}
 use mathlib.Core.List.Memᴰ
 use mathlib.Core.List.{List, [], ◌∷◌, ◌++◌}
@@ -10,12 +10,13 @@ use native.Mathlib.Numerals.{add-one}
 use lib.ListN.{length, get_or}
 use Rattle.theory.specs.Sets.{Mem}
 use Rattle.theory.specs.Theory.{Theory, WellFormed, Kind, False, Atom, And, Or, Opaque, Absorbed, joins}
-use Rattle.theory.specs.Words.{kind_of, node_at, chain, theory_of}
+use Rattle.theory.specs.Words.{node_at, chain, theory_of}
 use Rattle.theory.specs.Accepted.{Edition, Accepted}
 use Rattle.theory.specs.Rows.{Edge, tagged, stream, body_keys, atom_keys, leaf_keys, atom_nodes, parents, by_head, by_body}
-use Rattle.theory.proofs.SetLaws.{bool_cases}
+use Rattle.theory.proofs.SetLaws.{bool_cases, clash}
 use Rattle.theory.proofs.RowLaws.{rows_length, atom_nodes_few, parents_few, by_head_few, by_body_few}
-use Rattle.graph.proofs.DecodeLaws.{the_kind, the_leaves, the_operand}
+use Rattle.graph.specs.Kinds.{takes_operand}
+use Rattle.graph.proofs.DecodeLaws.{the_leaves, the_operand}
 use Rattle.area.specs.declared.Bases.{Bases}
 use Rattle.area.specs.Layout.{Based}
 use Rattle.adjacency.specs.declared.Table.{Table}
@@ -26,23 +27,29 @@ use Rattle.adjacency.specs.Building.{Keyed, start_of}
 -- ---- the keys of an item
 
 module _ (ws : List ℕ) where
-  pub atom_keys_lem : (n : ℕ) → get_or ws (node_at n) 0 ≡ 1 → atom_keys (theory_of ws) ((theory_of ws).kind n) n ≡ get_or ws (node_at n + 1) 0 ∷ []
-  unfolding atom_keys kind_of
-  atom_keys_lem n e = ap (λ (k : Kind). atom_keys (theory_of ws) k n) (the_kind ws n ∙ ap kind_of e) ∙ ap (λ (x : ℕ). x ∷ []) (the_operand ws n)
-
-  pub atom_no_keys : (n : ℕ) → get_or ws (node_at n) 0 ≢ 1 → atom_keys (theory_of ws) ((theory_of ws).kind n) n ≡ []
-  unfolding atom_keys kind_of
-  atom_no_keys n e = ap (λ (k : Kind). atom_keys (theory_of ws) k n) (the_kind ws n) ∙ go (get_or ws (node_at n) 0) e
+  pub atom_keys_lem : (n : ℕ) → takes_operand ((theory_of ws).kind n) ≡ true → atom_keys (theory_of ws) ((theory_of ws).kind n) n ≡ get_or ws (node_at n + 1) 0 ∷ []
+  unfolding atom_keys takes_operand
+  atom_keys_lem n q = go ((theory_of ws).kind n) q ∙ ap (λ (x : ℕ). x ∷ []) (the_operand ws n)
     where
-      go : (k : ℕ) → k ≢ 1 → atom_keys (theory_of ws) (kind_of k) n ≡ []
-      go zero h = refl
-      go (suc zero) h = absurd (h refl)
-      go (suc (suc zero)) h = refl
-      go (suc (suc (suc zero))) h = refl
-      go (suc (suc (suc (suc zero)))) h = refl
-      go (suc (suc (suc (suc (suc zero))))) h = refl
-      go (suc (suc (suc (suc (suc (suc zero)))))) h = refl
-      go (suc (suc (suc (suc (suc (suc (suc k))))))) h = refl
+      go : (k : Kind) → takes_operand k ≡ true → atom_keys (theory_of ws) k n ≡ (theory_of ws).operand n ∷ []
+      go False q = clash refl (sym q)
+      go Atom q = refl
+      go And q = clash refl (sym q)
+      go Or q = clash refl (sym q)
+      go Opaque q = clash refl (sym q)
+      go Absorbed q = clash refl (sym q)
+
+  pub atom_no_keys : (n : ℕ) → takes_operand ((theory_of ws).kind n) ≡ false → atom_keys (theory_of ws) ((theory_of ws).kind n) n ≡ []
+  unfolding atom_keys takes_operand
+  atom_no_keys n q = go ((theory_of ws).kind n) q
+    where
+      go : (k : Kind) → takes_operand k ≡ false → atom_keys (theory_of ws) k n ≡ []
+      go False q = refl
+      go Atom q = clash refl q
+      go And q = refl
+      go Or q = refl
+      go Opaque q = refl
+      go Absorbed q = refl
 
   -- a node that takes no links has none
   pub leaf_keys_lem : {ed : Edition} → Accepted ed ws → (n : ℕ) → n < get_or ws 2 0 → leaf_keys (theory_of ws) ((theory_of ws).kind n) n ≡ chain ws (get_or ws (node_at n + 2) 0)

@@ -1,3 +1,4 @@
 pub mod BuildLaws
+pub mod PlaceLaws
 pub mod KeyLaws
 pub mod TableLaws

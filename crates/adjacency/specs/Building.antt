@@ -2,7 +2,7 @@
 -- of values of a word.
 use Rattle.std.specs.Prelude.{◌≡◌, Bool, true, cond, List, [], ◌∷◌, ◌++◌, ℕ, ◌+◌, ◌≤◌, ◌<◌, length, get_or}
 use Rattle.theory.specs.Sets.{sum_below}
-use Rattle.theory.specs.Rows.{Edge, entries}
+use Rattle.theory.specs.Rows.{Edge, tagged, entries}
 
 -- the edges lie in the rows, and their entries fit a word
 abbrev pub Keyed : (lim rows : ℕ) → List Edge → Type 0
@@ -23,6 +23,14 @@ pub record Building (lim : ℕ) (filling : Bool) (rows : ℕ) (all : List Edge) 
   pub first : get_or q 0 0 ≡ 0
   pub cursors : (r : ℕ) → r < rows → get_or q (r + 1) 0 ≡ cond filling (start_of all r) 0 + length (entries r done)
   pub filled : filling ≡ true → (r i : ℕ) → r < rows → i < length (entries r done) → get_or q (rows + 1 + (start_of all r + i)) 0 ≡ get_or (entries r all) i 0
+
+-- an item's edges, by the rows that are to come; in a context: all the edges, and those that come after the item's
+pub record Around : Type 0 where
+  pub all : List Edge
+  pub after : List Edge
+
+abbrev pub Placing : (lim : ℕ) (filling : Bool) (rows item : ℕ) → Around → List ℕ → ℕ → List ℕ → Type 0
+Placing lim filling rows item c q t keys = Building lim filling rows c.all q 0 (tagged item keys ++ c.after)
 
 -- the counts of the rows below r
 abbrev pub sum_of : List ℕ → ℕ → ℕ

@@ -3,16 +3,16 @@
 #![tactic(auto)]
 
 ghost use Rattle.std.specs.Prelude.{◌≡◌, [], ◌∷◌, ◌+◌, ◌<◌, ◌≤◌, length};
-ghost use Rattle.theory.specs.Words.{chain, theory_of};
-ghost use Rattle.theory.specs.Links.{MeetsOnce};
+ghost use Rattle.theory.specs.Words.{theory_of};
 ghost use Rattle.theory.specs.Accepted.{Accepted};
 ghost use Rattle.theory.specs.Rows.{edge, tagged, body_keys, atom_keys};
 ghost use Rattle.theory.specs.Drive.{Follows, Drives};
 ghost use Rattle.area.specs.Layout.{Based};
 ghost use Rattle.adjacency.specs.Tables.{keys_of, items_of, rows_of, edges_of, base_of, next_of, start_at, Tabled, Built};
-ghost use Rattle.adjacency.specs.Building.{Building, Summed, sum_of};
+ghost use Rattle.adjacency.specs.Building.{Building, Around, Placing, Summed, sum_of};
 
 use area::Bases;
+use chains::Step;
 use words::Word;
 
 // Nodes per atom, parents per node, producers per head, producers per body.
@@ -36,25 +36,24 @@ fn place<W: Word>(part: &mut [W], rows: usize, filling: bool, row: usize, entry:
     }
 }
 
-// An item's edges along a chain.
-fn place_chain<W: Word>(
-    graph: &[W],
-    part: &mut [W],
+// An item's edges, along a chain of the rows that they are in.
+#[derive(Clone, Copy)]
+struct Item {
     rows: usize,
     filling: bool,
-    first: usize,
-    item: usize,
-)
-    requires accepted { Accepted W.edition (W.numbers graph.now) × MeetsOnce (W.numbers graph.now) first }
-    requires follows { Follows (Building W.limit filling rows) (W.numbers part.old) 0 (tagged item (chain (W.numbers graph.now) first)) }
-    ensures { Drives (Building W.limit filling rows) 0 (W.numbers part.old) 0 (tagged item (chain (W.numbers graph.now) first)) (W.numbers part.new) 0 [] }
-{
-    let from = graph::links_from(graph);
-    let mut l = first;
-    while l > 0 {
-        let row = graph::value(graph, from, l);
-        l = graph::next(graph, from, l);
-        place(part, rows, filling, row, item);
+    index: usize,
+}
+
+impl<W: Word> Step<W> for Item {
+    ghost Context = { Around };
+
+    ghost held = { λ it. Placing W.limit it.filling it.rows it.index };
+
+    ghost kept = { λ it. 0 };
+
+    fn step(self, part: &mut [W], row: usize, tail: usize) -> usize {
+        place(part, self.rows, self.filling, row, self.index);
+        tail
     }
 }
 
@@ -64,7 +63,7 @@ fn place_atom<W: Word>(graph: &[W], part: &mut [W], rows: usize, filling: bool, 
     requires follows { Follows (Building W.limit filling rows) (W.numbers part.old) 0 (tagged n (atom_keys (theory_of (W.numbers graph.now)) ((theory_of (W.numbers graph.now)).kind n) n)) }
     ensures { Drives (Building W.limit filling rows) 0 (W.numbers part.old) 0 (tagged n (atom_keys (theory_of (W.numbers graph.now)) ((theory_of (W.numbers graph.now)).kind n) n)) (W.numbers part.new) 0 [] }
 {
-    if graph::kind(graph, n) == 1 {
+    if graph::takes_operand(graph::kind(graph, n)) {
         place(part, rows, filling, graph::operand(graph, n), n);
         return;
     }
@@ -96,10 +95,19 @@ fn place_item<W: Word>(
     requires follows { Follows (Building W.limit filling rows) (W.numbers part.old) 0 (tagged i (keys_of (theory_of (W.numbers graph.now)) table i)) }
     ensures { Drives (Building W.limit filling rows) 0 (W.numbers part.old) 0 (tagged i (keys_of (theory_of (W.numbers graph.now)) table i)) (W.numbers part.new) 0 [] }
 {
+    let step = Item {
+        rows,
+        filling,
+        index: i,
+    };
     match table {
         Table::AtomNodes => place_atom(graph, part, rows, filling, i),
-        Table::Parents => place_chain(graph, part, rows, filling, graph::first_leaf(graph, i), i),
-        Table::ByHead => place_chain(graph, part, rows, filling, graph::first_head(graph, i), i),
+        Table::Parents => {
+            chains::along(graph, part, step, graph::first_leaf(graph, i), 0);
+        }
+        Table::ByHead => {
+            chains::heads(graph, part, step, i, 0);
+        }
         Table::ByBody => place_body(graph, part, rows, filling, i),
     }
 }
@@ -136,11 +144,8 @@ fn place_all<W: Word>(graph: &[W], part: &mut [W], rows: usize, filling: bool, t
     requires follows { Follows (Building W.limit filling rows) (W.numbers part.old) 0 (edges_of (theory_of (W.numbers graph.now)) table) }
     ensures { Drives (Building W.limit filling rows) 0 (W.numbers part.old) 0 (edges_of (theory_of (W.numbers graph.now)) table) (W.numbers part.new) 0 [] }
 {
-    let n = items(graph, table);
-    let mut i: usize = 0;
-    while i < n {
+    for i in 0..items(graph, table) {
         place_item(graph, part, rows, filling, table, i);
-        i += 1;
     }
 }
 
@@ -150,12 +155,10 @@ fn sum<W: Word>(part: &mut [W], rows: usize)
     ensures { Summed (W.numbers part.old) (W.numbers part.new) rows (sum_of (W.numbers part.old) rows) }
 {
     let mut total: usize = 0;
-    let mut r: usize = 0;
-    while r < rows {
+    for r in 0..rows {
         let n = words::at(part, r + 1);
         words::put(part, r + 1, total);
         total += n;
-        r += 1;
     }
 }
 

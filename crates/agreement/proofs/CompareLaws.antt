@@ -1,81 +1,28 @@
--- A list that is filled, two lists looked through side by side, and a list looked through for a number: what is known after i entries, one entry more, and the answers.
-use mathlib.Core.Path.{◌≡◌, refl, sym, ap, ◌∙◌}
-use mathlib.Core.Bool.{true, false}
+-- What `contains` answers of a list and a number, and `==` of the only place that is right after success.
+use mathlib.Core.Path.{◌≡◌, refl, sym, ◌∙◌}
+use mathlib.Core.Bool.{Bool, true}
+use mathlib.Core.List.{List, [], ◌∷◌}
 use mathlib.Core.List.Memᴰ
-use mathlib.Core.List.{List, [], ◌∷◌, ◌++◌, append-nil}
 use mathlib.Core.Logic.{◌↔◌, ⊎_elim}
-use native.Mathlib.Nat.{not-suc-le-zero}
-use Prim.Native.Nat.{ℕ, zero, suc, ◌+◌, ◌<◌, ◌≤◌}
-use native.Mathlib.Omega.{arith}
-use lib.ListN.{length, get_or, drop, replicate, get_or-replicate}
-use lib.Seq.{ext_get_or, drop-length}
-use borrow.Author.Count.{below_none, below_more}
-use Rattle.theory.specs.Sets.{Mem}
-use Rattle.theory.proofs.SetLaws.{clash}
+use Prim.Native.Nat.{ℕ}
+use lib.Dec.{eqb}
+use Rattle.std.specs.List.{list_any}
+use Rattle.std.specs.Cmp.{unsigned_Decides}
+use Rattle.std.specs.Bool.{nat_eq, one_answer}
+use Rattle.theory.specs.Sets.{Mem, any, member}
+use Rattle.theory.proofs.SetLaws.{mem_member, member_mem}
 
--- a list filled to its end has one word throughout
-pub filled : (a b : List ℕ) (x i : ℕ) → a ≡ replicate i x ++ drop i b → i ≡ length b → a ≡ replicate (length b) x
-filled a b x i h e = rw e at h ∙ ap (λ (l : List ℕ). replicate (length b) x ++ l) (drop-length b) ∙ append-nil _
+swapped : (x y : ℕ) → nat_eq y x ≡ eqb x y
+swapped x y = one_answer _ _ (unsigned_Decides y x) (λ e. sym ((unsigned_Decides x y).0 e), λ e. (unsigned_Decides x y).1 (sym e))
 
-pub no : {A : Type 0} → (A → ⊥) → (false ≡ true) ↔ A
-no h = (λ t. clash t refl, λ a. absurd (h a))
+any_member : (x : ℕ) (a : List ℕ) → list_any (λ y. nat_eq y x) a ≡ member x a
+unfolding member any
+any_member x [] = refl
+any_member x (y ∷ a) = rw (swapped x y, any_member x a) refl
 
--- the first i entries are the same
-pub record Alike (a b : List ℕ) (i : ℕ) : Type 0 where
-  pub within : i ≤ length a
-  pub below : (j : ℕ) → j < i → get_or a j 0 ≡ get_or b j 0
+pub among : (x : ℕ) (a : List ℕ) {r : Bool} → r ≡ list_any (λ y. nat_eq y x) a → (r ≡ true) ↔ Mem x a
+among x a e = (λ t. member_mem x a (sym (e ∙ any_member x a) ∙ t), λ m. e ∙ any_member x a ∙ mem_member m)
 
-module _ (a b : List ℕ) where
-  pub alike_none : Alike a b 0
-  alike_none = record { within = omega arith; below = below_none _ }
-
-  pub alike_more : (i : ℕ) → Alike a b i → i < length a → get_or a i 0 ≡ get_or b i 0 → Alike a b (i + 1)
-  alike_more i h l e = record { within = omega arith; below = below_more _ i h.below e }
-
-  pub alike_yes : (i : ℕ) → Alike a b i → length a ≤ i → length a ≡ length b → (true ≡ true) ↔ (a ≡ b)
-  alike_yes i h l e = (λ t. ext_get_or 0 a b e (λ j k. h.below j (omega arith)), λ t. refl)
-
-  pub alike_no : (i : ℕ) → (get_or a i 0 ≡ get_or b i 0 → ⊥) → (false ≡ true) ↔ (a ≡ b)
-  alike_no i h = no (λ e. h (ap (λ (l : List ℕ). get_or l i 0) e))
-
-  pub lengths_no : (length a ≡ length b → ⊥) → (false ≡ true) ↔ (a ≡ b)
-  lengths_no h = no (λ e. h (ap (λ (l : List ℕ). length l) e))
-
--- the same, where the other list has one word throughout
-module _ (a : List ℕ) (x i : ℕ) (l : i < length a) where
-  word_there : get_or (replicate (length a) x) i 0 ≡ x
-  word_there = get_or-replicate (length a) i x 0 l
-
-  pub all_more : Alike a (replicate (length a) x) i → get_or a i 0 ≡ x → Alike a (replicate (length a) x) (i + 1)
-  all_more h e = alike_more a (replicate (length a) x) i h l (e ∙ sym word_there)
-
-  pub all_no : (get_or a i 0 ≡ x → ⊥) → (false ≡ true) ↔ (a ≡ replicate (length a) x)
-  all_no h = alike_no a (replicate (length a) x) i (λ e. h (e ∙ word_there))
-
--- none of the first i entries is x
-pub record Absent (a : List ℕ) (x i : ℕ) : Type 0 where
-  pub within : i ≤ length a
-  pub below : (j : ℕ) → j < i → get_or a j 0 ≡ x → ⊥
-
-mem_at : (x : ℕ) (a : List ℕ) (i : ℕ) → i < length a → get_or a i 0 ≡ x → Mem x a
-mem_at x [] i l e = absurd (not-suc-le-zero l)
-mem_at x (y ∷ a) zero l e = Memᴰ.head (sym e)
-mem_at x (y ∷ a) (suc i) l e = Memᴰ.tail (mem_at x a i (omega arith) e)
-
-not_mem : (x : ℕ) (a : List ℕ) → ((j : ℕ) → j < length a → get_or a j 0 ≡ x → ⊥) → Mem x a → ⊥
-not_mem x [] h m = Memᴰ.not-nil m
-not_mem x (y ∷ a) h m =
-    ⊎_elim (λ (e : x ≡ y). h 0 (omega arith) (sym e)) (λ n. not_mem x a (λ j l. h (suc j) (omega arith)) n) (Memᴰ.cases_cons m)
-
-module _ (a : List ℕ) (x : ℕ) where
-  pub absent_none : Absent a x 0
-  absent_none = record { within = omega arith; below = below_none _ }
-
-  pub absent_more : (i : ℕ) → Absent a x i → i < length a → (get_or a i 0 ≡ x → ⊥) → Absent a x (i + 1)
-  absent_more i h l e = record { within = omega arith; below = below_more _ i h.below e }
-
-  pub among_yes : (i : ℕ) → i < length a → get_or a i 0 ≡ x → (true ≡ true) ↔ Mem x a
-  among_yes i l e = (λ t. mem_at x a i l e, λ m. refl)
-
-  pub among_no : (i : ℕ) → Absent a x i → length a ≤ i → (false ≡ true) ↔ Mem x a
-  among_no i h l = no (not_mem x a (λ j k. h.below j (omega arith)))
+pub among_one : (x : ℕ) → (nat_eq x 0 ≡ true) ↔ Mem x (0 ∷ [])
+among_one x =
+    (λ t. Memᴰ.head ((unsigned_Decides x 0).0 t), λ m. ⊎_elim (λ (e : x ≡ 0). (unsigned_Decides x 0).1 e) (λ n. absurd (Memᴰ.not-nil n)) (Memᴰ.cases_cons m))

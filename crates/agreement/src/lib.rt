@@ -1,147 +1,151 @@
 // Whether a call answers, and leaves, what is recorded of it. The call is made here, over output and work area that are soiled first; nothing is read or written.
 #![tactic(auto)]
 
-mod memory;
-
 ghost use Rattle.std.specs.Prelude.{◌≡◌, true, ◌↔◌, length};
 ghost use Rattle.theory.specs.Sets.{Mem};
 ghost use Rattle.refusals.specs.Answer.{refuse};
-ghost use Rattle.abi.specs.Codes.{code_of};
+ghost use Rattle.abi.specs.Codes.{Tells};
 ghost use Rattle.agreement.specs.Agreement.{right_places, right_output, right_work, Agrees, needed_code, CheckAgrees, NeededAgrees, PrepareAgrees, CompleteAgrees, ProgramAgrees};
+
+use abi::codes::Code;
 
 const SOIL: u16 = 21845;
 
 const WIDE_SOIL: u64 = 6148914691236517205;
 
-// The one number of a refusal, as the archive's calls have it.
-fn code(number: u16, place: u16) -> u32
-    ensures { result ≡ code_of 65536 (refuse number place) }
-{
-    number as u32 * 65536 + place as u32
+// A refusal's number stays a number, and 0 that of success: the recorded list has it so, and so has the code of a call, beside which it is put. An enum would be made of
+// the one number only to be turned into the other.
+
+/// What the graph check or the loop test should answer: the number of a refusal and its place, or twice 0.
+#[derive(Clone, Copy, Debug, PartialEq, Eq)]
+pub struct Answer {
+    pub number: u16,
+    pub place: u16,
 }
 
-fn needed_code(number: u16, place: u16, reply: u16) -> u32
-    ensures { result ≡ needed_code number place reply }
-{
-    if number == 0 {
-        return reply as u32;
+impl Answer {
+    // As the archive's calls have it.
+    fn code(self) -> u32
+        ensures { Tells 65536 (refuse self.number self.place) result }
+    {
+        u32::of(usize::from(self.number), usize::from(self.place))
     }
-    code(number, place)
+
+    fn needed_code(self, reply: u16) -> u32
+        ensures { result ≡ needed_code self.number self.place reply }
+    {
+        if self.number == 0 {
+            u32::from(reply)
+        } else {
+            self.code()
+        }
+    }
 }
 
-fn place_agrees(number: u16, places: &[u16], place: u16) -> bool
-    ensures { (result ≡ true) ↔ Mem place (right_places number places.now) }
-{
-    if number == 0 {
-        return memory::among(&[0u16; 1], place);
-    }
-    memory::among(places, place)
+/// What preparation or the pass should answer and leave: a refusal's number and its places, of which one is answered, or 0 and the output's words.
+#[derive(Clone, Copy)]
+pub struct Outcome<'a> {
+    pub number: u16,
+    pub places: &'a [u16],
+    pub words: &'a [u64],
 }
 
-fn output_agrees(number: u16, words: &[u64], output: &[u64]) -> bool
-    ensures { (result ≡ true) ↔ (output.now ≡ right_output number words.now (length output.now)) }
-{
-    if number == 0 {
-        return memory::same_wide(output, words);
+impl Outcome<'_> {
+    #[tactic(auto, using(crate::proofs::CompareLaws::among, crate::proofs::CompareLaws::among_one))]
+    fn place_agrees(&self, place: u16) -> bool
+        ensures { (result ≡ true) ↔ Mem place (right_places self.now.number self.now.places.now) }
+    {
+        if self.number == 0 {
+            return place == 0;
+        }
+        self.places.contains(&place)
     }
-    memory::all_wide_are(output, WIDE_SOIL)
+
+    fn output_agrees(&self, output: &[u64]) -> bool
+        ensures { (result ≡ true) ↔ (output.now ≡ right_output self.now.number self.now.words.now (length output.now)) }
+    {
+        if self.number == 0 {
+            return output == self.words;
+        }
+        output.iter().all(|word| *word == WIDE_SOIL)
+    }
+
+    // What the call answered and left.
+    fn agrees(&self, code: u32, output: &[u64], work: &[u16]) -> bool
+        ensures { (result ≡ true) ↔ Agrees self.now.number self.now.places.now self.now.words.now code output.now work.now }
+    {
+        code / 65536 == u32::from(self.number)
+            && self.place_agrees((code % 65536) as u16)
+            && self.output_agrees(output)
+            && work_agrees(self.number, work)
+    }
 }
 
 fn work_agrees(number: u16, work: &[u16]) -> bool
     ensures { (result ≡ true) ↔ (work.now ≡ right_work number (length work.now)) }
 {
-    if number == 0 {
-        return memory::all_are(work, 0);
-    }
-    if number == 12 {
-        return memory::all_are(work, 0);
-    }
-    memory::all_are(work, SOIL)
+    let right = match number {
+        0 | 12 => 0,
+        _ => SOIL,
+    };
+    work.iter().all(|word| *word == right)
 }
 
-// What preparation or pass answered and left.
-fn outcome_agrees(
-    number: u16,
-    places: &[u16],
-    words: &[u64],
-    code: u32,
-    output: &[u64],
-    work: &[u16],
-) -> bool
-    ensures { (result ≡ true) ↔ Agrees number places.now words.now code output.now work.now }
+/// The graph check, beside its answer.
+pub fn check_agrees(graph: &[u16], answer: Answer) -> bool
+    ensures { CheckAgrees graph.now answer.number answer.place result }
 {
-    if code / 65536 != number as u32 {
-        return false;
-    }
-    if !place_agrees(number, places, (code % 65536) as u16) {
-        return false;
-    }
-    if !output_agrees(number, words, output) {
-        return false;
-    }
-    work_agrees(number, work)
+    abi::founded_check(graph) == answer.code()
 }
 
-// The graph check, beside number and place.
-pub fn check_agrees(graph: &[u16], number: u16, place: u16) -> bool
-    ensures { CheckAgrees graph.now number place result }
+/// The loop test, beside its answer, or the reply.
+pub fn needed_agrees(graph: &[u16], work: &mut [u16], answer: Answer, reply: u16) -> bool
+    ensures { NeededAgrees graph.now (length work.old) answer.number answer.place reply result }
 {
-    abi::founded_check(graph) == code(number, place)
-}
-
-// The loop test, beside number and place, or the reply.
-pub fn needed_agrees(graph: &[u16], work: &mut [u16], number: u16, place: u16, reply: u16) -> bool
-    ensures { NeededAgrees graph.now (length work.old) number place reply result }
-{
-    words::fill(work, SOIL);
+    work.fill(SOIL);
     let code = abi::founded_needed(graph, work);
-    if code == needed_code(number, place, reply) {
-        return work_agrees(number, work);
-    }
-    false
+    code == answer.needed_code(reply) && work_agrees(answer.number, work)
 }
 
-// Preparation, beside number and places, or the output's words.
+// Preparation and pass differ in the call that they make and in its arguments: over a closure the two lines that they share would be fewer than its clauses.
+
+/// Preparation, beside its outcome.
 pub fn prepare_agrees(
     graph: &[u16],
     output: &mut [u64],
     work: &mut [u16],
-    number: u16,
-    places: &[u16],
-    words: &[u64],
+    outcome: &Outcome,
 ) -> bool
-    ensures { PrepareAgrees graph.now (length output.old) (length work.old) number places.now words.now result }
+    ensures { PrepareAgrees graph.now (length output.old) (length work.old) outcome.now.number outcome.now.places.now outcome.now.words.now result }
 {
-    memory::set_all_wide(output, WIDE_SOIL);
-    words::fill(work, SOIL);
+    output.fill(WIDE_SOIL);
+    work.fill(SOIL);
     let code = abi::founded_prepare(graph, output, work);
-    outcome_agrees(number, places, words, code, output, work)
+    outcome.agrees(code, output, work)
 }
 
-// The pass, beside the same.
+/// The pass, beside its outcome.
 pub fn complete_agrees(
     graph: &[u16],
     never: &[u64],
     atom_never: &[u64],
     output: &mut [u64],
     work: &mut [u16],
-    number: u16,
-    places: &[u16],
-    words: &[u64],
+    outcome: &Outcome,
 ) -> bool
-    ensures { CompleteAgrees graph.now never.now atom_never.now (length output.old) (length work.old) number places.now words.now result }
+    ensures { CompleteAgrees graph.now never.now atom_never.now (length output.old) (length work.old) outcome.now.number outcome.now.places.now outcome.now.words.now result }
 {
-    memory::set_all_wide(output, WIDE_SOIL);
-    words::fill(work, SOIL);
+    output.fill(WIDE_SOIL);
+    work.fill(SOIL);
     let code = abi::founded_complete(graph, never, atom_never, output, work);
-    outcome_agrees(number, places, words, code, output, work)
+    outcome.agrees(code, output, work)
 }
 
-// The program's text for an input, beside the recorded one.
+/// The program's text for an input, beside the recorded one.
 pub fn program_agrees(input: &[u8], text: &[u8]) -> bool
     ensures { ProgramAgrees input.now text.now result }
 {
     let mut out = [0u8; 6144];
     let n = report::report(input, &mut out);
-    memory::same_bytes(&out[..n], text)
+    &out[..n] == text
 }

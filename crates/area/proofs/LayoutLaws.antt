@@ -1,11 +1,11 @@
 -- Regions laid out in an area that has room hold the graph (`based`).
 use mathlib.Core.Path.{◌≡◌, sym, ap, ◌∙◌}
 use mathlib.Core.List.{List}
-use Prim.Native.Nat.{ℕ, ◌+◌, ◌≤◌}
+use Prim.Native.Nat.{ℕ, ◌≤◌}
 use native.Mathlib.Omega.{arith}
 use lib.ListN.{get_or}
 use Rattle.theory.specs.Words.{theory_of}
-use Rattle.theory.specs.Accepted.{edition1, edition2, leaf_entries, head_entries, area_of, Accepted}
+use Rattle.theory.specs.Accepted.{leaf_entries, head_entries}
 use Rattle.area.specs.declared.Bases.{Bases}
 use Rattle.area.specs.Layout.{Laid, words_for, entries_in, lay_out, LaidOut, Roomy, Based}
 

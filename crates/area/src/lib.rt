@@ -33,19 +33,21 @@ fn wipe_block<W: Word>(words: &mut [W])
     clear(words);
 }
 
+// How many words are looked at before any of them is written.
+const BLOCK: usize = 512;
+
 // Clears what may be 0 already in most places: a block that is all 0 is read and not written. The work area is larger than the cache next to the
-// processor, and there reading takes less time than writing.
+// processor, and there reading takes less time than writing. (After a loop over `chunks_mut` a proof knows the length alone, so the blocks are counted.)
 pub fn wipe<W: Word>(words: &mut [W])
     ensures { (W.numbers words.new) ≡ replicate (length (W.numbers words.old)) 0 }
 {
-    let end = words.len();
-    let mut from: usize = 0;
-    while end - from >= 512 {
-        let to = from + 512;
-        wipe_block(&mut words[from..to]);
-        from = to;
+    let blocks = words.len() / BLOCK;
+    for block in 0..blocks {
+        let from = BLOCK * block;
+        wipe_block(&mut words[from..from + BLOCK]);
     }
-    clear(&mut words[from..end]);
+    let rest = BLOCK * blocks;
+    clear(&mut words[rest..]);
 }
 
 use words::Word;

@@ -19,8 +19,9 @@ use Rattle.mask.specs.Mask.{words_of}
 use Rattle.graph.specs.Kinds.{takes_operand}
 use Rattle.refusals.specs.Answer.{Answer, accept, refuse, refuse_first, first_refusal}
 use Rattle.refusals.specs.Refusals.{bad_edition, bad_counts, bad_entries, bad_operand, bad_first, bad_record, bad_body, bad_next, bad_size, graph_rows, graph_answer}
-use Rattle.founded.specs.Answers.{completed_of, bad_lengths, absorbed_row, Completes}
-use Rattle.founded.specs.declared.Completed.{Completed}
+use Rattle.founded.specs.Answers.{call_of, bad_lengths, absorbed_row, Completes}
+use Rattle.founded.specs.declared.CallError.{CallError}
+use Rattle.std.specs.Prelude.{Result}
 use Rattle.founded.proofs.CallLaws.{last_row, work_fits}
 use Rattle.founded.proofs.DemandLaws.{list_missing}
 use Rattle.case_answers.specs.Shown.{Shows, lent, Shown}
@@ -37,19 +38,19 @@ accepts =
     ((refl, refl), ((refl, refl), ((refl, refl), ((refl, refl), ((refl, refl), ((refl, refl), ((refl, refl), ((refl, refl), ((refl, refl), ((refl, refl), ((refl, refl), ((refl, refl), ((refl, refl), ((refl, refl), ((refl, refl), tt)))))))))))))))
 
 -- where row 12 alone is left, the pass shows what the rules give
-rules_shown : {ws never atom_never output work output' work' : List ℕ} {r : Completed} → completed_of r ≡ absorbed_row (theory_of ws) (completed_of r).place
-    → Completes edition1 ws never atom_never output work output' work' r → Shows (outcome (theory_of ws) (bit_at never) (bit_at atom_never)) (get_or ws 1 0) (completed_of r) output output'
+rules_shown : {ws never atom_never output work output' work' : List ℕ} {r : Result (Unit {0}) CallError} → call_of r ≡ absorbed_row (theory_of ws) (call_of r).place
+    → Completes edition1 ws never atom_never output work output' work' r → Shows (outcome (theory_of ws) (bit_at never) (bit_at atom_never)) (get_or ws 1 0) (call_of r) output output'
 unfolding outcome absorbed_row theory_of
 rules_shown {ws} {never} {atom_never} {output} {output' = output'} {r = r} row h = go (bool_cases (filled (absorbed_in (theory_of ws))))
   where
     go : Is (filled (absorbed_in (theory_of ws))) ⊎ (filled (absorbed_in (theory_of ws)) ≡ false)
-        → Shows (outcome (theory_of ws) (bit_at never) (bit_at atom_never)) (get_or ws 1 0) (completed_of r) output output'
+        → Shows (outcome (theory_of ws) (bit_at never) (bit_at atom_never)) (get_or ws 1 0) (call_of r) output output'
     go (inl t) =
-        let e : completed_of r ≡ refuse 12 (completed_of r).place = row ∙ rw t in
-        let n : (completed_of r).number ≡ 12 = ap (λ (a : Answer). a.number) e in
+        let e : call_of r ≡ refuse 12 (call_of r).place = row ∙ rw t in
+        let n : (call_of r).number ≡ 12 = ap (λ (a : Answer). a.number) e in
         rw t (n, h.absorbed n, h.output_after ∙ rw n)
     go (inr f) =
-        let e : completed_of r ≡ accept = row ∙ rw f in
+        let e : call_of r ≡ accept = row ∙ rw f in
         rw f (e, rw (list_missing h (ap (λ (a : Answer). a.number) e)))
 
 row_shown : (c : Case) → Agrees c → Accepts c → Shown c
@@ -57,7 +58,7 @@ unfolding Agrees Accepts Shown
 row_shown c rules ok = (
   λ work hw. rw (ok.0, eq-eqb (length work) 32768 hw, rules.0),
   λ output work output' work' r ho hw h.
-      subst (λ (o : Outcome). Shows o (get_or (lent c) 1 0) (completed_of r) output output') rules.1
+      subst (λ (o : Outcome). Shows o (get_or (lent c) 1 0) (call_of r) output output') rules.1
       (rules_shown (last_row ok.0 (ap (bad_lengths (lent c) (length c.never) (length c.atom_never)) ho ∙ ok.1) (work_fits edition1 (lent c) (length work) hw) h) h),
 )
 

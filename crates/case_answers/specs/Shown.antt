@@ -1,6 +1,6 @@
 -- What the contracts of the loop test and of the pass say on a case of document 01, whatever output of ⌈A/64⌉ words and work area of 32,768 words the
 -- call is lent. That it is the row's outcome in each row of the table: proofs/ShownLaws.
-use Rattle.std.specs.Prelude.{◌≡◌, List, ℕ, length, get_or}
+use Rattle.std.specs.Prelude.{◌≡◌, List, ℕ, length, get_or, Result}
 use Rattle.theory.specs.Sets.{Mem, members}
 use Rattle.theory.specs.Words.{bit_at}
 use Rattle.theory.specs.Accepted.{edition1}
@@ -8,8 +8,8 @@ use Rattle.theory.specs.Cases.{Outcome, lists, refused, Case}
 use Rattle.mask.specs.Mask.{words_of}
 use Rattle.refusals.specs.Answer.{Answer, accept}
 use Rattle.cycles.specs.Outcome.{loops, outcome}
-use Rattle.founded.specs.Answers.{completed_of, Completes}
-use Rattle.founded.specs.declared.Completed.{Completed}
+use Rattle.founded.specs.Answers.{call_of, Completes}
+use Rattle.founded.specs.declared.CallError.{CallError}
 
 -- an outcome, of an answer and of the output before and after it: success with that list in the output's bits, or that number at one of the places with the
 -- output as it was
@@ -26,8 +26,8 @@ LoopTest c = (work : List ℕ) → length work ≡ 32768 → outcome edition1 (l
 
 abbrev pub Pass : Case → Type 0
 Pass c =
-    (output work output' work' : List ℕ) (r : Completed) → length output ≡ words_of (get_or (lent c) 1 0) → length work ≡ 32768
-    → Completes edition1 (lent c) c.never c.atom_never output work output' work' r → Shows c.result (get_or (lent c) 1 0) (completed_of r) output output'
+    (output work output' work' : List ℕ) (r : Result (Unit {0}) CallError) → length output ≡ words_of (get_or (lent c) 1 0) → length work ≡ 32768
+    → Completes edition1 (lent c) c.never c.atom_never output work output' work' r → Shows c.result (get_or (lent c) 1 0) (call_of r) output output'
 
 -- both calls give the row's outcome
 unfoldable pub Shown : Case → Type 0

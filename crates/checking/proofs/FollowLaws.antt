@@ -1,41 +1,33 @@
 -- A walk over the chains of all places, testing and counting each entry: what holds between two chains and along one, a link at a time. And one chain
 -- followed for at most K links (`toward-..`).
 use mathlib.Core.Path.{◌≡◌, refl, sym, ap, ◌∙◌, subst}
-use mathlib.Core.Bool.{Bool, true, false, ◌||◌}
+use mathlib.Core.Bool.{true, false, not, ◌||◌}
 use mathlib.Core.List.{List}
 use Prim.Native.Nat.{ℕ, zero, suc, ◌+◌, ◌*◌, ◌≤◌, ◌<◌}
 use native.Mathlib.Numerals.{add-one}
 use native.Mathlib.Omega.{arith}
-use borrow.Author.Tests.{le-leb, lt-leb}
-use lib.Dec.{leb}
+use native.Mathlib.Decide.{ℕ_discrete}
+use borrow.Author.Tests.{le-leb, lt-leb, eq-eqb, ne_eqb}
+use lib.Dec.{leb, eqb}
 use lib.ListN.{length, get_or}
 use Rattle.theory.specs.Sets.{any, sum_below}
 use Rattle.theory.specs.Words.{value_of, next_of, chain}
 use Rattle.theory.specs.Links.{link_after, MeetsOnce, comes_back}
 use Rattle.theory.proofs.ChainLaws.{once_next, chain_end, chain_step, after_step, after_none, ends_clear, runs_back}
-use Rattle.checking.specs.declared.Walk.TheVariants.{Bad, Total}
-use Rattle.refusals.specs.Search.{Clear}
-use Rattle.checking.specs.Walked.{Walked, wrong, fine}
+use Rattle.refusals.specs.Search.{Clear, First}
+use Rattle.checking.specs.Walked.{bad_place, entries_of}
 use Rattle.refusals.proofs.SearchLaws.{clear_none, clear_more, first_found, first_none}
 
--- the chain of place n begins at link `first n`, and an entry of it is wrong unless it is below `limit n`
 module _ (ws : List ℕ) (limit first : ℕ → ℕ) where
-  abbrev pub bad : ℕ → Bool
-  bad n = any (leb (limit n)) (chain ws (first n))
-
-  abbrev pub entries_of : ℕ → ℕ
-  entries_of n = length (chain ws (first n))
-
   -- the places below n are done
   pub record Between (n entries : ℕ) : Type 0 where
-    pub clear : Clear bad 0 n
-    pub counted : entries ≡ sum_below n entries_of
+    pub clear : Clear (bad_place ws limit first) 0 n
+    pub counted : entries ≡ sum_below n (entries_of ws first)
 
   -- on the way along the chain of place n, at link l
   pub record Along (n entries l : ℕ) : Type 0 where
-    pub once : MeetsOnce ws l
-    pub same : any (leb (limit n)) (chain ws l) ≡ bad n
-    pub counted : entries + length (chain ws l) ≡ entries_of n + sum_below n entries_of
+    pub same : any (leb (limit n)) (chain ws l) ≡ bad_place ws limit first n
+    pub counted : entries + length (chain ws l) ≡ entries_of ws first n + sum_below n (entries_of ws first)
 
 module _ {ws : List ℕ} {limit first : ℕ → ℕ} where
   pub between_none : Between ws limit first 0 0
@@ -43,12 +35,12 @@ module _ {ws : List ℕ} {limit first : ℕ → ℕ} where
   between_none = record { clear = clear_none 0; counted = refl }
 
   pub between_all : {n entries end : ℕ} → Between ws limit first n entries → n ≡ end
-      → Walked (bad ws limit first) end (sum_below end (entries_of ws limit first)) (Total entries)
+      → (entries ≡ sum_below end (entries_of ws first)) × First (bad_place ws limit first) 0 end end
   between_all {n} {entries} b e =
-      subst (λ (m : ℕ). Walked (bad ws limit first) m (sum_below m (entries_of ws limit first)) (Total entries)) e (fine b.counted (first_none b.clear refl))
+      subst (λ (m : ℕ). (entries ≡ sum_below m (entries_of ws first)) × First (bad_place ws limit first) 0 m m) e (b.counted, first_none b.clear refl)
 
-  pub along_first : {n entries : ℕ} → Between ws limit first n entries → MeetsOnce ws (first n) → Along ws limit first n entries (first n)
-  along_first b e = record { once = e; same = refl; counted = let c = b.counted in omega arith }
+  pub along_first : {n entries l : ℕ} → Between ws limit first n entries → l ≡ first n → Along ws limit first n entries l
+  along_first b e = rw e (record { same = refl; counted = let c = b.counted in omega arith })
 
   module _ {n entries l : ℕ} (a : Along ws limit first n entries l) where
     pub along_end : {before : ℕ} → Between ws limit first n before → l ≡ 0 → Between ws limit first (n + 1) entries
@@ -59,34 +51,21 @@ module _ {ws : List ℕ} {limit first : ℕ → ℕ} where
         let c = a.counted in
         record { clear = clear_more b.clear (sym a.same ∙ ap (any (leb (limit n))) e); counted = rw add-one (omega arith) }
 
-    module _ (z : l ≡ 0 → ⊥) where
+    module _ (once : MeetsOnce ws l) (z : l ≡ 0 → ⊥) where
       -- v is what the link has
-      step : {v : ℕ} → v ≡ value_of ws l → bad ws limit first n ≡ leb (limit n) v || any (leb (limit n)) (chain ws (next_of ws l))
+      step : {v : ℕ} → v ≡ value_of ws l → bad_place ws limit first n ≡ leb (limit n) v || any (leb (limit n)) (chain ws (next_of ws l))
       unfolding any
-      step e = sym a.same ∙ ap (any (leb (limit n))) (chain_step ws a.once z) ∙ rw e refl
+      step e = sym a.same ∙ ap (any (leb (limit n))) (chain_step ws once z) ∙ rw e refl
 
-      pub along_wrong : {v before end total : ℕ} → v ≡ value_of ws l → limit n ≤ v → Between ws limit first n before → n < end
-          → Walked (bad ws limit first) end total (Bad n)
-      along_wrong e h b k = wrong k (first_found b.clear k (step e ∙ rw (le-leb _ _ h) refl))
+      pub along_wrong : {v before end : ℕ} → v ≡ value_of ws l → limit n ≤ v → Between ws limit first n before → n < end
+          → (n < end) × First (bad_place ws limit first) 0 end n
+      along_wrong e h b k = (k, first_found b.clear k (step e ∙ rw (le-leb _ _ h) refl))
 
       pub along_next : {v : ℕ} → v ≡ value_of ws l → v < limit n → Along ws limit first n (entries + 1) (next_of ws l)
       along_next e h =
-          let t = ap length (chain_step ws a.once z) in
+          let t = ap length (chain_step ws once z) in
           let c = a.counted in
-          record { once = once_next ws a.once z; same = sym (step e ∙ rw (lt-leb _ _ h) refl); counted = omega arith }
-
-      -- the count fits: each chain has at most `most` entries
-      pub along_few : (most : ℕ) → ((m : ℕ) → length (chain ws m) ≤ most) → entries < most + most * n
-      unfolding sum_below
-      along_few most few =
-          let t = ap length (chain_step ws a.once z) in
-          let c = a.counted in
-          let s = sum n in
-          omega (arith, few (first n))
-        where
-          sum : (k : ℕ) → sum_below k (entries_of ws limit first) ≤ most * k
-          sum zero = omega arith
-          sum (suc k) = let s = sum k in omega (arith, few (first k))
+          record { same = sym (step e ∙ rw (lt-leb _ _ h) refl); counted = omega arith }
 
 -- ---- one chain, followed for at most K links
 
@@ -108,3 +87,11 @@ module _ {ws : List ℕ} {first left l : ℕ} (t : Toward ws first left l) where
 
   pub toward_next : (l ≡ 0 → ⊥) → {rest m : ℕ} → rest + 1 ≡ left → m ≡ next_of ws l → next_of ws l ≤ get_or ws 4 0 → Toward ws first rest m
   toward_next z {rest} {m} e n h = rw n (record { low = h; same = sym (after_step ws rest left l z e) ∙ t.same })
+
+  -- no link is left to follow
+  pub toward_last : left ≡ 0 → not (eqb l 0) ≡ comes_back ws first
+  toward_last e = go (ℕ_discrete l 0)
+    where
+      go : Dec (l ≡ 0) → not (eqb l 0) ≡ comes_back ws first
+      go (yes z) = rw (eq-eqb l 0 z, toward_end z)
+      go (no z) = rw (ne_eqb l 0 z, toward_back z e)

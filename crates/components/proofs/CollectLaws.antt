@@ -12,7 +12,7 @@ use Rattle.theory.proofs.CollectLaws.{entry_low, entry_met, entry_room, entry_fr
 use Rattle.theory.specs.Drive.{Follows, Drives}
 use Rattle.area.specs.declared.Bases.{Bases}
 use Rattle.area.specs.Views.{mark_of, queued}
-use Rattle.events.proofs.TurnLaws.{Ready}
+use Rattle.rows.proofs.TurnLaws.{Ready}
 use Rattle.components.specs.Gathering.{Ctx, Gathering}
 use Rattle.components.proofs.MeetLaws.{met, met_size, met_frame, met_past, met_before, met_last, met_mark, met_others}
 

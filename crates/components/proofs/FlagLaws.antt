@@ -25,7 +25,7 @@ use Rattle.area.specs.declared.Bases.{Bases}
 use Rattle.area.specs.Layout.{Based}
 use Rattle.area.proofs.PartLaws.{frame_at}
 use Rattle.area.specs.Views.{mark_of, mark_in, flag_at, queued}
-use Rattle.events.proofs.VertexLaws.{tables_same}
+use Rattle.rows.proofs.VertexLaws.{tables_same}
 use Rattle.components.specs.Classes.{Classifying, Flagged, Component, Sweeping, Gathered, Classified, ordered, flag_member}
 use Rattle.components.proofs.GatherLaws.{queued_same, ordered_same}
 

@@ -15,9 +15,9 @@ use Rattle.area.specs.declared.Bases.{Bases}
 use Rattle.area.specs.Layout.{Based}
 use Rattle.area.proofs.PartLaws.{frame_at, frame_less}
 use Rattle.area.proofs.FillLaws.{Filled}
-use Rattle.events.specs.Held.{Tables}
+use Rattle.rows.specs.Rows.{Tables}
 use Rattle.area.specs.Views.{mark_of, mark_in}
-use Rattle.events.proofs.VertexLaws.{tables_same}
+use Rattle.rows.proofs.VertexLaws.{tables_same}
 use Rattle.finishing.specs.Latest.{latest}
 use Rattle.finishing.specs.Finished.{Finished}
 use Rattle.components.specs.Classes.{Sweeping, Classified, ordered}

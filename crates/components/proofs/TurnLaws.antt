@@ -23,7 +23,7 @@ use Rattle.graph.proofs.DecodeLaws.{the_atoms}
 use Rattle.area.specs.declared.Bases.{Bases}
 use Rattle.area.specs.Layout.{Laid, Based}
 use Rattle.area.specs.Views.{mark_in, queued}
-use Rattle.events.proofs.VertexLaws.{tables_same}
+use Rattle.rows.proofs.VertexLaws.{tables_same}
 use Rattle.components.specs.Gathering.{Gathering}
 use Rattle.components.specs.Classes.{Classifying, Kept, Gathered, Searched, ordered, ctx_of}
 use Rattle.components.proofs.GatherLaws.{row_all, row_edges, ordered_same, left}

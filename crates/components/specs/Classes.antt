@@ -9,7 +9,7 @@ use Rattle.theory.specs.Search.{Swept}
 use Rattle.theory.specs.Prefix.{upto, between}
 use Rattle.area.specs.declared.Bases.{Bases}
 use Rattle.area.specs.Views.{mark_in, flag_at, queued}
-use Rattle.events.specs.Held.{Tables}
+use Rattle.rows.specs.Rows.{Tables}
 use Rattle.components.specs.Gathering.{Ctx, Gathering}
 
 -- the first n of the finishing order, the last one first

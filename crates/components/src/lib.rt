@@ -1,19 +1,44 @@
 // Components and cyclic atoms, by the second walk of Sharir (1981): along the edges, latest finished first, each search collecting one component.
-// An atom alone in its component is not cyclic. The rows of the members are gone through in collecting.rt.
+// An atom alone in its component is not cyclic.
 #![tactic(auto)]
-
-mod collecting;
 
 ghost use Rattle.std.specs.Prelude.{◌≡◌, ◌+◌, ◌<◌, ◌≤◌, length};
 ghost use Rattle.theory.specs.Accepted.{Accepted};
 ghost use Rattle.area.specs.Layout.{Laid, Based};
+ghost use Rattle.components.specs.Gathering.{Ctx, Gathering};
 ghost use Rattle.components.specs.Classes.{Classifying, Searched, Gathered, Component, flag_member, Sweeping, Classified};
 ghost use Rattle.theory.specs.Words.{theory_of};
-ghost use Rattle.events.specs.Held.{Tables};
+ghost use Rattle.rows.specs.Rows.{Tables};
 ghost use Rattle.finishing.specs.Finished.{Ready, Marked};
 
 use area::Bases;
+use chains::Step;
 use words::Word;
+
+// An entry that the second walk has not met is met, and goes on the queue.
+#[derive(Clone, Copy)]
+struct Collect {
+    bases: Bases,
+}
+
+impl<W: Word> Step<W> for Collect {
+    ghost Context = { Ctx };
+
+    ghost held = { λ it. Gathering W.limit it.bases };
+
+    ghost kept = { λ it. it.bases.states };
+
+    fn step(self, work: &mut [W], v: usize, tail: usize) -> usize {
+        let b = self.bases;
+        let m = b.states + v;
+        if words::at(work, m) != 2 {
+            return tail;
+        }
+        words::put(work, m, 3);
+        words::put(work, b.queue + tail, v);
+        tail + 1
+    }
+}
 
 // The members that are on the queue from `found` on, the root alone at first, and those that their rows lead to.
 fn follow<W: Word>(graph: &[W], work: &mut [W], b: Bases, n: usize, found: usize) -> usize
@@ -22,9 +47,10 @@ fn follow<W: Word>(graph: &[W], work: &mut [W], b: Bases, n: usize, found: usize
 {
     let mut head = found;
     let mut tail = found + 1;
+    // a queue: a turn may add to it, and a `for` fixes its end before the first turn
     while head < tail {
         let v = words::at(work, b.queue + head);
-        tail = collecting::collect_vertex(graph, work, b, v, tail);
+        tail = rows::along(graph, work, b, Collect { bases: b }, v, tail);
         head += 1;
     }
     tail
@@ -65,10 +91,8 @@ fn flag<W: Word>(graph: &[W], work: &mut [W], b: Bases, n: usize, from: usize, t
     if to <= from + 1 {
         return;
     }
-    let mut i = from;
-    while i < to {
+    for i in from..to {
         flag_member(work, b, i);
-        i += 1;
     }
 }
 
@@ -77,10 +101,8 @@ fn classify<W: Word>(graph: &[W], work: &mut [W], b: Bases, count: usize)
     requires { Accepted W.edition (W.numbers graph.now) × Based (W.numbers graph.now) (length (W.numbers work.old)) b × Sweeping (W.numbers graph.now) b (W.numbers work.old) (W.numbers work.old) count 0 }
     ensures { Classified (W.numbers graph.now) b (W.numbers work.old) (W.numbers work.new) }
 {
-    let mut n = count;
     let mut found: usize = 0;
-    while n > 0 {
-        n -= 1;
+    for n in (0..count).rev() {
         let tail = gather(graph, work, b, n, found);
         flag(graph, work, b, n, found, tail);
         found = tail;

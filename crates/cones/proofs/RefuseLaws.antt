@@ -3,32 +3,17 @@ use mathlib.Core.Path.{◌≡◌, refl, sym, ap, ◌∙◌}
 use mathlib.Core.Logic.{◌⊎◌, inl, inr}
 use mathlib.Core.Bool.{Bool, true, false, ◌&&◌, cond}
 use mathlib.Core.List.{List}
-use Prim.Native.Nat.{ℕ, zero, suc, ◌+◌, ◌≤◌, ◌<◌}
+use Prim.Native.Nat.{ℕ, ◌+◌, ◌<◌}
 use native.Mathlib.Omega.{arith}
 use borrow.Author.Count.{below_more}
-use lib.Dec.{eqb}
 use Rattle.theory.specs.Sets.{Is}
 use Rattle.theory.specs.Theory.{Theory, Kind, False, Atom, And, Or, Opaque, Absorbed, absorbed}
-use Rattle.theory.specs.Words.{kind_of}
 use Rattle.theory.specs.Edges.{body_cone}
 use Rattle.theory.proofs.SetLaws.{bool_cases, clash, and_intro, and_left, and_right}
 use Rattle.theory.proofs.EdgeLaws.{cone_bound}
 use Rattle.area.specs.declared.Bases.{Bases}
-use Rattle.cones.specs.declared.Coned.TheVariants.{Done, Absorbed as Refused}
+use Rattle.std.specs.Prelude.{Ok, Err}
 use Rattle.cones.specs.Cones.{node_mark, Found, body_coned}
-
--- kind 7 is the absorbed one
-pub absorbed_is : (k : ℕ) → k ≤ 7 → absorbed (kind_of k) ≡ eqb k 7
-unfolding absorbed kind_of
-absorbed_is zero h = refl
-absorbed_is (suc zero) h = refl
-absorbed_is (suc (suc zero)) h = refl
-absorbed_is (suc (suc (suc zero))) h = refl
-absorbed_is (suc (suc (suc (suc zero)))) h = refl
-absorbed_is (suc (suc (suc (suc (suc zero))))) h = refl
-absorbed_is (suc (suc (suc (suc (suc (suc zero)))))) h = refl
-absorbed_is (suc (suc (suc (suc (suc (suc (suc zero))))))) h = refl
-absorbed_is (suc (suc (suc (suc (suc (suc (suc (suc k)))))))) h = absurd (omega arith)
 
 is_absorbed : (k : Kind) → Is (absorbed k) → k ≡ Kind.Absorbed
 unfolding absorbed
@@ -47,22 +32,22 @@ module _ {th : Theory} {b : Bases} {w : List ℕ} {count : ℕ} (f : Found th (b
       go (inl e) = let k = f.marks n l ∙ ap (λ (t : Bool). cond t 1 0) e in absurd (omega arith)
       go (inr e) = sym (ap (λ (t : Bool). t && absorbed (th.kind n)) e)
 
-  pub refused_in : {n k : ℕ} → n < th.nodes → (node_mark b w n ≡ 0 → ⊥) → th.kind n ≡ kind_of k → k ≤ 7 → eqb k 7 ≡ body_cone th n && absorbed (th.kind n)
-  refused_in {n} {k} l z e h = go (bool_cases (body_cone th n))
+  pub refused_in : {n : ℕ} {r : Bool} → n < th.nodes → (node_mark b w n ≡ 0 → ⊥) → absorbed (th.kind n) ≡ r → r ≡ body_cone th n && absorbed (th.kind n)
+  refused_in {n} {r} l z e = go (bool_cases (body_cone th n))
     where
-      go : (body_cone th n ≡ true) ⊎ (body_cone th n ≡ false) → eqb k 7 ≡ body_cone th n && absorbed (th.kind n)
-      go (inl q) = sym (absorbed_is k h) ∙ sym (ap absorbed e) ∙ sym (ap (λ (t : Bool). t && absorbed (th.kind n)) q)
+      go : (body_cone th n ≡ true) ⊎ (body_cone th n ≡ false) → r ≡ body_cone th n && absorbed (th.kind n)
+      go (inl q) = sym e ∙ sym (ap (λ (t : Bool). t && absorbed (th.kind n)) q)
       go (inr q) = absurd (z (f.marks n l ∙ ap (λ (t : Bool). cond t 1 0) q))
 
   -- r: the answer at n
   module _ {n : ℕ} {r : Bool} (is : r ≡ body_cone th n && absorbed (th.kind n)) where
-    pub refuse_at : n < th.nodes → Is r → body_coned th b w (Refused n)
+    pub refuse_at : n < th.nodes → Is r → body_coned th b w (Err (record { node = n }))
     unfolding body_coned
     refuse_at l h = let k = sym is ∙ h in (l, and_left (body_cone th n) (absorbed (th.kind n)) k, is_absorbed (th.kind n) (and_right (body_cone th n) (absorbed (th.kind n)) k))
 
     pub refuse_on : ((k : ℕ) → k < n → body_cone th k && absorbed (th.kind k) ≡ false) → r ≡ false → (k : ℕ) → k < n + 1 → body_cone th k && absorbed (th.kind k) ≡ false
     refuse_on before h = below_more (λ k. body_cone th k && absorbed (th.kind k) ≡ false) n before (sym is ∙ h)
 
-  pub refuse_none : ((n : ℕ) → n < th.nodes → body_cone th n && absorbed (th.kind n) ≡ false) → body_coned th b w (Done count)
+  pub refuse_none : ((n : ℕ) → n < th.nodes → body_cone th n && absorbed (th.kind n) ≡ false) → body_coned th b w (Ok count)
   unfolding body_coned body_cone absorbed
   refuse_none none = (f, λ n h e. clash (and_intro h (ap absorbed e)) (none n (cone_bound th _ n h)))

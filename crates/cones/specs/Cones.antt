@@ -1,5 +1,5 @@
 -- The two cones as they stand in the work area (document 01, "Preparation": the first and the second cone), and what their calls promise.
-use Rattle.std.specs.Prelude.{◌≡◌, ◌↔◌, Bool, true, false, ◌&&◌, cond, List, ℕ, ◌+◌, ◌≤◌, ◌<◌, eqb, length, take, drop}
+use Rattle.std.specs.Prelude.{◌≡◌, ◌↔◌, Bool, true, false, ◌&&◌, cond, List, ℕ, ◌+◌, ◌≤◌, ◌<◌, eqb, length, take, drop, Result, Ok, Err}
 use Rattle.theory.specs.Sets.{Is, Set, Mem, any, filled, members}
 use Rattle.theory.specs.Counts.{Distinct}
 use Rattle.theory.specs.Theory.{Theory, Kind}
@@ -8,8 +8,7 @@ use Rattle.theory.specs.Founded.{cyclic, cyclic_cone}
 use Rattle.area.specs.declared.Bases.{Bases}
 use Rattle.area.specs.Views.{mark_in, flag_at}
 use Rattle.cones.specs.declared.Cone.{Cone}
-use Rattle.cones.specs.declared.Coned.{Coned}
-use Rattle.cones.specs.declared.Coned.TheVariants.{Done, Absorbed}
+use Rattle.cones.specs.declared.Absorbed.{Absorbed}
 
 -- the mark of a node, the first so many nodes of the cone's list, and the first so many facts
 abbrev pub node_mark : Bases → List ℕ → ℕ → ℕ
@@ -58,9 +57,9 @@ pub record Held (th : Theory) (s facts : Set) (b : Bases) (w : List ℕ) (c : Co
   pub lists : facts_of b w c.facts ≡ members th.producers facts
 
 -- the body cone, none of whose nodes is absorbed; or an absorbed node of it
-unfoldable pub body_coned : Theory → Bases → List ℕ → Coned → Type 0
-body_coned th b w (Done count) = Found th (body_cone th) b w count × ((n : ℕ) → Is (body_cone th n) → th.kind n ≡ Kind.Absorbed → ⊥)
-body_coned th b w (Absorbed n) = (n < th.nodes) × Is (body_cone th n) × (th.kind n ≡ Kind.Absorbed)
+unfoldable pub body_coned : Theory → Bases → List ℕ → Result ℕ Absorbed → Type 0
+body_coned th b w (Ok count) = Found th (body_cone th) b w count × ((n : ℕ) → Is (body_cone th n) → th.kind n ≡ Kind.Absorbed → ⊥)
+body_coned th b w (Err e) = (e.node < th.nodes) × Is (body_cone th e.node) × (th.kind e.node ≡ Kind.Absorbed)
 
 -- the cyclic cone, and the facts with a cyclic head
 abbrev pub cyclic_coned : Theory → Bases → List ℕ → Cone → Type 0

@@ -2,7 +2,7 @@
 // search marks a node when it finds it, and the list of the nodes found is its queue.
 #![tactic(auto)]
 
-ghost use Rattle.std.specs.Prelude.{◌≡◌, true, ◌&&◌, [], ◌∷◌, ℕ, ◌+◌, ◌≤◌, ◌<◌, length};
+ghost use Rattle.std.specs.Prelude.{◌≡◌, true, ◌&&◌, ℕ, ◌+◌, ◌≤◌, ◌<◌, length};
 ghost use Rattle.theory.specs.Sets.{Mem, any};
 ghost use Rattle.theory.specs.Theory.{absorbed};
 ghost use Rattle.theory.specs.Founded.{cyclic};
@@ -10,12 +10,12 @@ ghost use Rattle.theory.specs.Words.{chain, theory_of};
 ghost use Rattle.theory.specs.Links.{MeetsOnce};
 ghost use Rattle.theory.specs.Edges.{cone, body_cone};
 ghost use Rattle.theory.specs.Accepted.{Accepted};
-ghost use Rattle.theory.specs.Drive.{Follows, Drives};
 ghost use Rattle.area.specs.Layout.{Laid, bases_of, Based};
 ghost use Rattle.cones.specs.Cones.{node_mark, wanted_by, fact_by, Flagged, Found, Kept, Held, body_coned, cyclic_coned};
-ghost use Rattle.cones.specs.Finding.{Searching, Begun};
+ghost use Rattle.cones.specs.Finding.{Stage, Searching, Begun};
 
 use area::Bases;
+use chains::Step;
 use words::Word;
 
 // How many nodes a cone has, and how many facts were wanted.
@@ -25,14 +25,14 @@ pub struct Cone {
     pub facts: usize,
 }
 
-// The body cone: how many nodes it has, or a node of it that is absorbed.
-#[derive(Drop)]
-pub enum Coned {
-    Done(usize),
-    Absorbed(usize),
+// Why there is no body cone: a node of it is absorbed (refusal 12).
+#[derive(Clone, Copy, Debug, PartialEq, Eq)]
+pub struct Absorbed {
+    pub node: usize,
 }
 
 // Whether a chain of heads has a cyclic one. It is gone along to its end: which head is the first cyclic one cannot be foreseen.
+// Nothing is changed at a head, so this is no `chains::Step`, and the only walk of its kind.
 fn cyclic_head<W: Word>(graph: &[W], work: &[W], b: Bases, first: usize) -> bool
     requires accepted { Accepted W.edition (W.numbers graph.now) × Based (W.numbers graph.now) (length (W.numbers work.now)) b × Flagged (theory_of (W.numbers graph.now)) b (W.numbers work.now) }
     requires meets_once { MeetsOnce (W.numbers graph.now) first × ((a : ℕ) → Mem a (chain (W.numbers graph.now) first) → a < (theory_of (W.numbers graph.now)).atoms) }
@@ -63,38 +63,26 @@ fn wanted<W: Word>(graph: &[W], work: &[W], b: Bases, cyclic_only: bool, p: usiz
 }
 
 // A node is marked, and listed unless it was found already. It is stored behind the list all the same: whether it is new cannot be foreseen either.
-fn include<W: Word>(work: &mut [W], b: Bases, n: usize, count: usize) -> usize
-    requires { Follows (Searching W.limit b) (W.numbers work.old) count (n ∷ []) }
-    ensures { Drives (Searching W.limit b) b.states (W.numbers work.old) count (n ∷ []) (W.numbers work.new) result [] }
-{
-    let mark = b.states + (b.atoms + n);
-    let found = words::at(work, mark);
-    words::put(work, mark, 1);
-    words::put(work, b.body_nodes + count, n);
-    count + 1 - found
+#[derive(Clone, Copy)]
+struct Include {
+    bases: Bases,
 }
 
-// The leaves along a chain.
-fn include_chain<W: Word>(
-    graph: &[W],
-    work: &mut [W],
-    b: Bases,
-    first: usize,
-    count: usize,
-) -> usize
-    requires accepted { Accepted W.edition (W.numbers graph.now) × MeetsOnce (W.numbers graph.now) first }
-    requires follows { Follows (Searching W.limit b) (W.numbers work.old) count (chain (W.numbers graph.now) first) }
-    ensures { Drives (Searching W.limit b) b.states (W.numbers work.old) count (chain (W.numbers graph.now) first) (W.numbers work.new) result [] }
-{
-    let from = graph::links_from(graph);
-    let mut t = count;
-    let mut l = first;
-    while l > 0 {
-        let v = graph::value(graph, from, l);
-        l = graph::next(graph, from, l);
-        t = include(work, b, v, t);
+impl<W: Word> Step<W> for Include {
+    ghost Context = { Stage };
+
+    ghost held = { λ it. Searching W.limit it.bases };
+
+    ghost kept = { λ it. it.bases.states };
+
+    fn step(self, work: &mut [W], n: usize, count: usize) -> usize {
+        let b = self.bases;
+        let mark = b.states + (b.atoms + n);
+        let found = words::at(work, mark);
+        words::put(work, mark, 1);
+        words::put(work, b.body_nodes + count, n);
+        count + 1 - found
     }
-    t
 }
 
 // Producer p: the body of a wanted one is included, and a wanted fact is listed.
@@ -118,7 +106,7 @@ fn begin_at<W: Word>(
     let facts = c.facts;
     let body = graph::body(graph, p);
     if body > 0 {
-        let more = include(work, b, body - 1, nodes);
+        let more = Include { bases: b }.step(work, body - 1, nodes);
         return Cone { nodes: more, facts };
     }
     words::put(work, b.fact_rows + facts, p);
@@ -136,10 +124,8 @@ fn begin<W: Word>(graph: &[W], work: &mut [W], b: Bases, cyclic_only: bool) -> C
     ensures { Begun W.limit (theory_of (W.numbers graph.now)) cyclic_only b (W.numbers work.new) (theory_of (W.numbers graph.now)).producers result × Kept b (W.numbers work.old) (W.numbers work.new) }
 {
     let mut c = Cone { nodes: 0, facts: 0 };
-    let mut p: usize = 0;
-    while p < b.producers {
+    for p in 0..b.producers {
         c = begin_at(graph, work, b, cyclic_only, p, c);
-        p += 1;
     }
     c
 }
@@ -165,9 +151,16 @@ fn find_in<W: Word>(graph: &[W], work: &mut [W], b: Bases, cyclic_only: bool) ->
     let bodies = c.nodes;
     let mut nodes = bodies;
     let mut next: usize = 0;
+    // a queue: a turn may add to it, and a `for` fixes its end before the first turn
     while next < nodes {
         let n = words::at(work, b.body_nodes + next);
-        nodes = include_chain(graph, work, b, graph::first_leaf(graph, n), nodes);
+        nodes = chains::along(
+            graph,
+            work,
+            Include { bases: b },
+            graph::first_leaf(graph, n),
+            nodes,
+        );
         next += 1;
     }
     Cone {
@@ -195,27 +188,25 @@ fn refused_at<W: Word>(graph: &[W], work: &[W], b: Bases, count: usize, n: usize
     if words::at(work, b.states + (b.atoms + n)) == 0 {
         return false;
     }
-    graph::kind(graph, n) == 7
+    graph::absorbed(graph::kind(graph, n))
 }
 
-// The lowest absorbed node of the body cone, if there is one (refusal 12).
-fn refuse<W: Word>(graph: &[W], work: &[W], b: Bases, count: usize) -> Coned
+// How many nodes the body cone has, unless one of them is absorbed: the lowest of these.
+fn refuse<W: Word>(graph: &[W], work: &[W], b: Bases, count: usize) -> Result<usize, Absorbed>
     requires accepted { Accepted W.edition (W.numbers graph.now) × Based (W.numbers graph.now) (length (W.numbers work.now)) b }
     requires found { Found (theory_of (W.numbers graph.now)) (body_cone (theory_of (W.numbers graph.now))) b (W.numbers work.now) count }
     ensures { body_coned (theory_of (W.numbers graph.now)) b (W.numbers work.now) result }
 {
-    let mut n: usize = 0;
-    while n < b.nodes {
+    for n in 0..b.nodes {
         if refused_at(graph, work, b, count, n) {
-            return Coned::Absorbed(n);
+            return Err(Absorbed { node: n });
         }
-        n += 1;
     }
-    Coned::Done(count)
+    Ok(count)
 }
 
 // The body cone (document 01: the first cone).
-pub fn body_cone<W: Word>(graph: &[W], work: &mut [W], b: Bases) -> Coned
+pub fn body_cone<W: Word>(graph: &[W], work: &mut [W], b: Bases) -> Result<usize, Absorbed>
     requires { Accepted W.edition (W.numbers graph.now) × Based (W.numbers graph.now) (length (W.numbers work.old)) b }
     ensures { Kept b (W.numbers work.old) (W.numbers work.new) × body_coned (theory_of (W.numbers graph.now)) b (W.numbers work.new) result }
 {

@@ -27,9 +27,9 @@ use Rattle.theory.proofs.KahnLaws.{kahn_open, kahn_closed}
 use Rattle.area.specs.declared.Bases.{Bases}
 use Rattle.area.proofs.PartLaws.{frame_at, frame_less}
 use Rattle.area.specs.Views.{count_at, queued}
-use Rattle.events.specs.Held.{Tables}
+use Rattle.rows.specs.Rows.{Tables}
 use Rattle.events.specs.Run.{Running, Ran}
-use Rattle.events.proofs.VertexLaws.{tables_same}
+use Rattle.rows.proofs.VertexLaws.{tables_same}
 use Rattle.cycles.specs.Held.{Counting, Looked}
 use Rattle.cycles.proofs.DegreeLaws.{degree_all}
 

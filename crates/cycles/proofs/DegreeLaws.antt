@@ -1,6 +1,6 @@
 -- How many edges lead to a vertex. To a node: one from its operand (`degree_operand`) or one from each leaf (`degree_leaves`). To an atom: a fact adds none
 -- (`below_fact`), and a producer with a body one for each time that it has the atom as a head (`below_heads`).
-use mathlib.Core.Path.{◌≡◌, refl, ap, ◌∙◌}
+use mathlib.Core.Path.{◌≡◌, refl, sym, ap, ◌∙◌}
 use mathlib.Core.Logic.{◌≢◌}
 use mathlib.Core.Bool.{Bool, true, false, cond}
 use mathlib.Core.List.{List, [], ◌∷◌}
@@ -12,10 +12,11 @@ use lib.Dec.{eqb}
 use lib.ListN.{length, length-append, length-map}
 use Rattle.theory.specs.Sets.{everyone}
 use Rattle.theory.specs.Counts.{count_in, occ}
-use Rattle.theory.specs.Theory.{Theory, Kind, joins}
-use Rattle.theory.specs.Words.{kind_of}
+use Rattle.theory.specs.Theory.{Theory, Kind, False, Atom, And, Or, Opaque, Absorbed, joins}
 use Rattle.theory.specs.Edges.{occurrences, body_entries, bodies_below, inputs, preds}
+use Rattle.theory.proofs.SetLaws.{clash}
 use Rattle.theory.proofs.EdgeLaws.{preds_atom, preds_node}
+use Rattle.graph.specs.Kinds.{takes_operand}
 use Rattle.cycles.specs.Held.{degree_by}
 
 occurs_length : (x a : ℕ) (hs : List ℕ) → length (occurrences x a hs) ≡ occ a hs
@@ -53,27 +54,33 @@ module _ (th : Theory) where
 
   -- ---- nodes
 
-  module _ (n : ℕ) (l : n < th.nodes) (k : ℕ) (e : th.kind n ≡ kind_of k) where
-    degree_inputs : length (preds th everyone (th.atoms + n)) ≡ length (inputs th (kind_of k) n)
-    degree_inputs = ap length (preds_node th everyone n l refl) ∙ ap (λ (z : Kind). length (inputs th z n)) e
+  module _ (n : ℕ) (l : n < th.nodes) where
+    degree_inputs : length (preds th everyone (th.atoms + n)) ≡ length (inputs th (th.kind n) n)
+    degree_inputs = ap length (preds_node th everyone n l refl)
 
-    pub degree_operand : k ≡ 1 → length (preds th everyone (th.atoms + n)) ≡ 1
-    unfolding inputs kind_of
-    degree_operand q = degree_inputs ∙ ap (λ (z : ℕ). length (inputs th (kind_of z) n)) q
-
-    pub degree_leaves : k ≢ 1 → (joins (th.kind n) ≡ false → th.leaves n ≡ []) → length (preds th everyone (th.atoms + n)) ≡ length (th.leaves n)
-    unfolding inputs joins kind_of
-    degree_leaves q none = degree_inputs ∙ go k q (λ f. none (ap joins e ∙ f))
+    pub degree_operand : takes_operand (th.kind n) ≡ true → length (preds th everyone (th.atoms + n)) ≡ 1
+    unfolding inputs takes_operand
+    degree_operand q = degree_inputs ∙ go (th.kind n) q
       where
-        go : (k : ℕ) → k ≢ 1 → (joins (kind_of k) ≡ false → th.leaves n ≡ []) → length (inputs th (kind_of k) n) ≡ length (th.leaves n)
-        go zero q none = omega (arith, ap length (none refl))
-        go (suc zero) q none = absurd (q refl)
-        go (suc (suc zero)) q none = length-map (th.leaves n) (λ m. th.atoms + m)
-        go (suc (suc (suc zero))) q none = length-map (th.leaves n) (λ m. th.atoms + m)
-        go (suc (suc (suc (suc zero)))) q none = omega (arith, ap length (none refl))
-        go (suc (suc (suc (suc (suc zero))))) q none = omega (arith, ap length (none refl))
-        go (suc (suc (suc (suc (suc (suc zero)))))) q none = omega (arith, ap length (none refl))
-        go (suc (suc (suc (suc (suc (suc (suc k))))))) q none = omega (arith, ap length (none refl))
+        go : (k : Kind) → takes_operand k ≡ true → length (inputs th k n) ≡ 1
+        go False q = clash refl (sym q)
+        go Atom q = refl
+        go And q = clash refl (sym q)
+        go Or q = clash refl (sym q)
+        go Opaque q = clash refl (sym q)
+        go Absorbed q = clash refl (sym q)
+
+    pub degree_leaves : takes_operand (th.kind n) ≡ false → (joins (th.kind n) ≡ false → th.leaves n ≡ []) → length (preds th everyone (th.atoms + n)) ≡ length (th.leaves n)
+    unfolding inputs joins takes_operand
+    degree_leaves q none = degree_inputs ∙ go (th.kind n) q none
+      where
+        go : (k : Kind) → takes_operand k ≡ false → (joins k ≡ false → th.leaves n ≡ []) → length (inputs th k n) ≡ length (th.leaves n)
+        go False q none = omega (arith, ap length (none refl))
+        go Atom q none = clash refl q
+        go And q none = length-map (th.leaves n) (λ m. th.atoms + m)
+        go Or q none = length-map (th.leaves n) (λ m. th.atoms + m)
+        go Opaque q none = omega (arith, ap length (none refl))
+        go Absorbed q none = omega (arith, ap length (none refl))
 
   -- ---- a vertex
 

@@ -1,4 +1,4 @@
--- The loops of the test, a turn each: counting a node (`node_counted`) and a producer (`fact_counted`, `heads_start`, `head_counted`), and looking at a
+-- The loops of the test, a turn each: counting a node (`node_counted`) and a producer (`fact_counted`, `heads_start`, `head_counted`, `count_more`), and looking at a
 -- vertex (`look_start`, `looked`, `added`). Stores past the tables leave the shape (`shape_set`).
 use mathlib.Core.Path.{◌≡◌, refl, sym, ap, ◌∙◌}
 use mathlib.Core.Logic.{◌⊎◌, inl, inr, ◌≢◌}
@@ -21,8 +21,9 @@ use Rattle.area.specs.declared.Bases.{Bases}
 use Rattle.area.specs.Layout.{Laid}
 use Rattle.area.proofs.PartLaws.{frame_at}
 use Rattle.area.specs.Views.{count_at, queued}
-use Rattle.events.proofs.VertexLaws.{tables_same}
-use Rattle.cycles.specs.Held.{Shape, Started, degree_by, Counting, Looked}
+use Rattle.rows.proofs.VertexLaws.{tables_same}
+use Rattle.theory.specs.Drive.{Follows, Drives}
+use Rattle.cycles.specs.Held.{Shape, Started, degree_by, Counting, Heads, Looked}
 use Rattle.cycles.proofs.DegreeLaws.{below_fact, below_heads, degree_atom, degree_node, degree_few}
 
 shape_set : {lim : ℕ} {th : Theory} {b : Bases} {w : List ℕ} (i x : ℕ) → b.states ≤ i → Shape lim th b w → Shape lim th b (set w i x)
@@ -132,6 +133,17 @@ module _ {lim : ℕ} {th : Theory} {b : Bases} {w : List ℕ} {p v : ℕ} {heads
       tally x l (no n) =
           let k = t.tally x l in
           rw (get_or-set_other w (b.dependencies + v) (b.dependencies + x) (count_at b w v + 1) 0 (λ e. n (omega arith))) (omega (arith, occ_other x v todo n))
+
+-- the same as a step
+module _ {lim : ℕ} {b : Bases} {w : List ℕ} {t v : ℕ} where
+  pub count_place : Follows (Heads lim b) w t (v ∷ []) → b.dependencies + v < length w
+  count_place f = head_place f.held refl
+
+  pub count_fits : Follows (Heads lim b) w t (v ∷ []) → count_at b w v + 1 < lim
+  count_fits f = head_fits f.held refl
+
+  pub count_more : Drives (Heads lim b) 0 w t (v ∷ []) (set w (b.dependencies + v) (count_at b w v + 1)) t []
+  count_more = record { frame = refl; size = length-set w (b.dependencies + v) (count_at b w v + 1); keeps = λ c more h. head_counted h refl }
 
 -- ---- looking for the first vertices
 

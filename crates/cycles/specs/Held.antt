@@ -7,7 +7,7 @@ use Rattle.theory.specs.Edges.{bodies_below, preds}
 use Rattle.area.specs.declared.Bases.{Bases}
 use Rattle.area.specs.Layout.{Laid}
 use Rattle.area.specs.Views.{count_at, queued}
-use Rattle.events.specs.Held.{Tables}
+use Rattle.rows.specs.Rows.{Tables}
 
 -- what does not change: the counts, the regions, the tables
 pub record Shape (lim : ℕ) (th : Theory) (b : Bases) (w : List ℕ) : Type 0 where
@@ -36,6 +36,15 @@ pub record Counting (lim : ℕ) (th : Theory) (b : Bases) (w : List ℕ) (p : �
   pub low : (v : ℕ) → Mem v todo → v < b.atoms + b.nodes
   pub begun : p ≤ th.producers
   pub tally : (v : ℕ) → v < b.atoms + b.nodes → count_at b w v + occ v todo ≡ degree_by th p v
+
+-- the producers that a count is of: those of a theory below a number
+pub record Producers : Type 0 where
+  pub theory : Theory
+  pub below : ℕ
+
+-- the count, head by head; no list grows meanwhile
+abbrev pub Heads : (lim : ℕ) (b : Bases) → Producers → List ℕ → ℕ → List ℕ → Type 0
+Heads lim b c w t todo = Counting lim c.theory b w c.below todo
 
 -- those of the vertices below k that wait for nothing are on the queue, tail of them; what stands before the queue stays
 pub record Looked (b : Bases) (w₀ w : List ℕ) (k tail : ℕ) : Type 0 where

@@ -1,5 +1,5 @@
 -- What `needed` answers: number and place of a refusal, or whether there is a closed walk, and what it leaves in the work area.
-use Rattle.std.specs.Prelude.{Bool, true, false, not, cond, List, ℕ, ◌<◌, eqb, length, replicate}
+use Rattle.std.specs.Prelude.{Bool, not, cond, List, ℕ, ◌<◌, eqb, length, replicate, Result, Ok, Err}
 use Rattle.theory.specs.Sets.{everyone}
 use Rattle.theory.specs.Walks.{Walk}
 use Rattle.theory.specs.Theory.{Theory}
@@ -8,19 +8,22 @@ use Rattle.theory.specs.Founded.{has_cycle}
 use Rattle.theory.specs.Words.{theory_of}
 use Rattle.theory.specs.Accepted.{Edition, area_of}
 use Rattle.refusals.specs.Answer.{Answer, refuse, refuse_if, or_next}
-use Rattle.refusals.specs.Refusals.{graph_answer, answer_of}
-use Rattle.cycles.specs.declared.Need.{Need}
-use Rattle.cycles.specs.declared.Need.TheVariants.{No, Yes, Refused, Work}
+use Rattle.refusals.specs.Refusals.{graph_answer, refused_as}
+use Rattle.cycles.specs.declared.NeedError.{NeedError}
+use Rattle.cycles.specs.declared.NeedError.TheVariants.{Refused, Work}
 
 pub data Outcome : Type 0 where
   refused : Answer → Outcome
   loops : Bool → Outcome
 
-abbrev pub outcome_of : Need → Outcome
-outcome_of No = loops false
-outcome_of Yes = loops true
-outcome_of (Refused c) = refused (answer_of c)
-outcome_of Work = refused (refuse 11 0)
+-- number and place of each case of `NeedError`
+abbrev pub turned_as : NeedError → Answer
+turned_as (Refused e) = refused_as e
+turned_as Work = refuse 11 0
+
+abbrev pub outcome_of : Result Bool NeedError → Outcome
+outcome_of (Ok reply) = loops reply
+outcome_of (Err e) = refused (turned_as e)
 
 -- rows 1 to 9, then 11
 abbrev pub refusal : Edition → (graph work : List ℕ) → Answer

@@ -9,13 +9,15 @@ ghost use Rattle.theory.specs.Edges.{preds};
 ghost use Rattle.theory.specs.Accepted.{Accepted};
 ghost use Rattle.theory.specs.Founded.{has_cycle};
 ghost use Rattle.area.specs.Layout.{Laid, Roomy, Based};
-ghost use Rattle.cycles.specs.Held.{Started, Counting, Looked};
+ghost use Rattle.cycles.specs.Held.{Started, Counting, Producers, Heads, Looked};
+ghost use Rattle.cycles.specs.declared.NeedError.TheVariants.{Refused};
 ghost use Rattle.cycles.specs.Outcome.{loops, outcome_of, outcome, work_after, ClosedWalk};
 
 use adjacency::Table;
 use area::Bases;
 use area::length::Area;
-use refusals::Checked;
+use chains::Step;
+use refusals::Refusal;
 use words::Word;
 
 // How many edges lead to node n: one from its operand, or one from each leaf.
@@ -23,7 +25,7 @@ fn degree<W: Word>(graph: &[W], n: usize) -> usize
     requires { Accepted W.edition (W.numbers graph.now) × (n < (theory_of (W.numbers graph.now)).nodes) }
     ensures { result ≡ length (preds (theory_of (W.numbers graph.now)) everyone ((theory_of (W.numbers graph.now)).atoms + n)) }
 {
-    if graph::kind(graph, n) == 1 {
+    if graph::takes_operand(graph::kind(graph, n)) {
         return 1;
     }
     graph::entries(graph, graph::first_leaf(graph, n))
@@ -34,10 +36,27 @@ fn count_nodes<W: Word>(graph: &[W], work: &mut [W], b: Bases)
     requires { Accepted W.edition (W.numbers graph.now) × Started W.limit (theory_of (W.numbers graph.now)) b (W.numbers work.old) 0 }
     ensures { Started W.limit (theory_of (W.numbers graph.now)) b (W.numbers work.new) b.nodes }
 {
-    let mut n: usize = 0;
-    while n < b.nodes {
+    for n in 0..b.nodes {
         words::put(work, b.dependencies + (b.atoms + n), degree(graph, n));
-        n += 1;
+    }
+}
+
+// One more entry that a head waits for.
+#[derive(Clone, Copy)]
+struct Count {
+    bases: Bases,
+}
+
+impl<W: Word> Step<W> for Count {
+    ghost Context = { Producers };
+
+    ghost held = { λ it. Heads W.limit it.bases };
+
+    ghost kept = { λ it. 0 };
+
+    fn step(self, work: &mut [W], v: usize, tail: usize) -> usize {
+        counters::add(work, self.bases.dependencies + v, 1);
+        tail
     }
 }
 
@@ -49,13 +68,7 @@ fn count_heads<W: Word>(graph: &[W], work: &mut [W], b: Bases, p: usize)
     if graph::body(graph, p) == 0 {
         return;
     }
-    let from = graph::links_from(graph);
-    let mut l = graph::first_head(graph, p);
-    while l > 0 {
-        let v = graph::value(graph, from, l);
-        l = graph::next(graph, from, l);
-        counters::add(work, b.dependencies + v, 1);
-    }
+    chains::heads(graph, work, Count { bases: b }, p, 0);
 }
 
 // How many entries each vertex waits for.
@@ -64,11 +77,8 @@ fn count_all<W: Word>(graph: &[W], work: &mut [W], b: Bases)
     ensures { Counting W.limit (theory_of (W.numbers graph.now)) b (W.numbers work.new) (theory_of (W.numbers graph.now)).producers [] }
 {
     count_nodes(graph, work, b);
-    let end = graph::producers(graph);
-    let mut p: usize = 0;
-    while p < end {
+    for p in 0..graph::producers(graph) {
         count_heads(graph, work, b, p);
-        p += 1;
     }
 }
 
@@ -78,13 +88,11 @@ fn look_all<W: Word>(work: &mut [W], b: Bases) -> usize
     ensures { Looked b (W.numbers work.old) (W.numbers work.new) (b.atoms + b.nodes) result }
 {
     let mut tail: usize = 0;
-    let mut v: usize = 0;
-    while v < b.atoms + b.nodes {
+    for v in 0..b.atoms + b.nodes {
         if counters::get(work, b.dependencies + v) == 0 {
             words::put(work, b.queue + tail, v);
             tail += 1;
         }
-        v += 1;
     }
     tail
 }
@@ -116,37 +124,32 @@ fn cyclic<W: Word>(graph: &[W], work: &mut [W]) -> bool
     n < b.atoms + b.nodes
 }
 
-#[derive(Clone, Copy)]
-pub enum Need {
-    No,
-    Yes,
-    Refused(Checked),
+// Why a call is turned away. specs/Outcome has the number and place of each.
+#[derive(Clone, Copy, Debug, PartialEq, Eq)]
+pub enum NeedError {
+    Refused(Refusal),
     Work,
 }
 
-fn reply(yes: bool) -> Need
-    ensures { outcome_of result ≡ loops yes }
-{
-    if yes {
-        return Need::Yes;
+impl From<Refusal> for NeedError {
+    ghost from_gives = { λ refusal e. e ≡ Refused refusal };
+
+    fn from(refusal: Refusal) -> NeedError {
+        NeedError::Refused(refusal)
     }
-    Need::No
 }
 
 // Refusals 1 to 9, then 11, then whether there is a closed walk.
-pub fn needed<W: Area>(graph: &[W], work: &mut [W]) -> Need
+pub fn needed<W: Area>(graph: &[W], work: &mut [W]) -> Result<bool, NeedError>
     ensures result_value { outcome_of result ≡ outcome W.edition (W.numbers graph.now) (W.numbers work.old) }
     ensures work_after { (W.numbers work.new) ≡ work_after W.edition (W.numbers graph.now) (W.numbers work.old) }
     ensures variant { (yes : _) → outcome_of result ≡ loops yes → (yes ≡ true) ↔ ClosedWalk (theory_of (W.numbers graph.now)) }
 {
-    let checked = checking::check(graph);
-    let Checked::Accepted = checked else {
-        return Need::Refused(checked);
-    };
+    checking::check(graph)?;
     if work.len() != W::area_words(graph) {
-        return Need::Work;
+        return Err(NeedError::Work);
     }
     let yes = cyclic(graph, work);
     area::wipe(work);
-    reply(yes)
+    Ok(yes)
 }

@@ -20,9 +20,9 @@ use Rattle.refusals.specs.Refusals.{graph_rows, graph_answer}
 use Rattle.refusals.proofs.RowLaws.{rows_append}
 use Rattle.refusals.proofs.AcceptedLaws.{accepted}
 use Rattle.cycles.specs.Outcome.{Outcome, loops, refused, outcome}
-use Rattle.founded.specs.Answers.{prepared_of, completed_of, bad_mask, bad_lengths, bad_work, absorbed_row, call_answer, prepare_answer, complete_answer, output_left, Prepares, Completes}
-use Rattle.founded.specs.declared.Prepared.{Prepared}
-use Rattle.founded.specs.declared.Completed.{Completed}
+use Rattle.founded.specs.Answers.{call_of, bad_mask, bad_lengths, bad_work, absorbed_row, call_answer, prepare_answer, complete_answer, output_left, Prepares, Completes}
+use Rattle.founded.specs.declared.CallError.{CallError}
+use Rattle.std.specs.Prelude.{Result}
 
 -- what the loop test says where its rows give this answer
 said : Answer → Bool → Outcome
@@ -80,21 +80,21 @@ module _ (ed fd : Edition) (x y : List ℕ) (first : graph_answer ed x ≡ accep
     written {n} {m} e {c} {d} f output =
         ap (λ (k : ℕ). output_left k (get_or x 1 0) c output) e ∙ ap (λ (k : ℕ). output_left m k c output) atoms ∙ ap (λ (k : Set). output_left m (get_or y 1 0) k output) f
 
-    pub prepared_equal : (output o₁ v₁ o₂ w₂ : List ℕ) (r s : Prepared) → Prepares ed x output v o₁ v₁ r → Prepares fd y output w o₂ w₂ s → ((prepared_of r).number ≡ (prepared_of s).number) × (o₁ ≡ o₂)
+    pub prepared_equal : (output o₁ v₁ o₂ w₂ : List ℕ) (r s : Result (Unit {0}) CallError) → Prepares ed x output v o₁ v₁ r → Prepares fd y output w o₂ w₂ s → ((call_of r).number ≡ (call_of s).number) × (o₁ ≡ o₂)
     unfolding prepare_answer
     prepared_equal output o₁ v₁ o₂ w₂ r s p q =
-        let n : (prepared_of r).number ≡ (prepared_of s).number =
-        ap (λ (a : Answer). a.number) p.answer ∙ numbers (ap (λ (k : ℕ). bad_mask k (length output)) atoms) (prepared_of r).place (prepared_of s).place ∙ sym (ap (λ (a : Answer). a.number) q.answer) in
+        let n : (call_of r).number ≡ (call_of s).number =
+        ap (λ (a : Answer). a.number) p.answer ∙ numbers (ap (λ (k : ℕ). bad_mask k (length output)) atoms) (call_of r).place (call_of s).place ∙ sym (ap (λ (a : Answer). a.number) q.answer) in
         (n, p.output_after ∙ written n (fun_ext (cyclic_alike (theory_of x) (theory_of y) one ok fine)) output ∙ sym q.output_after)
 
     lengths_equal : (n a o : ℕ) → bad_lengths x n a o ≡ bad_lengths y n a o
     unfolding bad_lengths
     lengths_equal n a o = ap₂ (λ (k j : ℕ). bad_mask k n || (bad_mask j a || bad_mask j o)) nodes atoms
 
-    pub completed_equal : (never atom_never output o₁ v₁ o₂ w₂ : List ℕ) (r s : Completed) → Completes ed x never atom_never output v o₁ v₁ r → Completes fd y never atom_never output w o₂ w₂ s
-        → ((completed_of r).number ≡ (completed_of s).number) × (o₁ ≡ o₂)
+    pub completed_equal : (never atom_never output o₁ v₁ o₂ w₂ : List ℕ) (r s : Result (Unit {0}) CallError) → Completes ed x never atom_never output v o₁ v₁ r → Completes fd y never atom_never output w o₂ w₂ s
+        → ((call_of r).number ≡ (call_of s).number) × (o₁ ≡ o₂)
     unfolding complete_answer
     completed_equal never atom_never output o₁ v₁ o₂ w₂ r s p q =
-        let n : (completed_of r).number ≡ (completed_of s).number =
-        ap (λ (a : Answer). a.number) p.answer ∙ numbers (lengths_equal (length never) (length atom_never) (length output)) (completed_of r).place (completed_of s).place ∙ sym (ap (λ (a : Answer). a.number) q.answer) in
+        let n : (call_of r).number ≡ (call_of s).number =
+        ap (λ (a : Answer). a.number) p.answer ∙ numbers (lengths_equal (length never) (length atom_never) (length output)) (call_of r).place (call_of s).place ∙ sym (ap (λ (a : Answer). a.number) q.answer) in
         (n, p.output_after ∙ written n (fun_ext (missing_alike (theory_of x) (theory_of y) one ok fine (bit_at never) (bit_at atom_never))) output ∙ sym q.output_after)

@@ -17,7 +17,7 @@ use Rattle.area.specs.declared.Bases.{Bases}
 use Rattle.area.specs.Views.{count_at, queued}
 use Rattle.area.proofs.ViewLaws.{count_same, count_other, count_queue, push_count, push_queue}
 use Rattle.events.specs.Held.{Ctx, Held}
-use Rattle.events.proofs.TurnLaws.{Ready}
+use Rattle.rows.proofs.TurnLaws.{Ready}
 
 -- one if there is something to wait for
 pub one_of : (n : ℕ) → bool_byte (ltb 0 n) ≡ n - (n - 1)

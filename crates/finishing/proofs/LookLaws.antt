@@ -5,6 +5,7 @@ use mathlib.Core.Logic.{◌≢◌}
 use mathlib.Core.Bool.{true, false}
 use mathlib.Core.List.Memᴰ
 use mathlib.Core.List.{List, [], ◌∷◌, ◌++◌}
+use Rattle.std.specs.Prelude.{Some, None}
 use Prim.Native.Nat.{ℕ, zero, suc, ◌+◌, ◌-◌, ◌≤◌, ◌<◌}
 use native.Mathlib.Nat.{not-suc-le-zero}
 use native.Mathlib.Omega.{arith}
@@ -24,7 +25,6 @@ use Rattle.graph.proofs.DecodeLaws.{the_nodes, the_producers, the_operand, the_b
 use Rattle.area.specs.declared.Bases.{Bases}
 use Rattle.adjacency.specs.Tables.{start_at, edges_of}
 use Rattle.adjacency.specs.declared.Table.TheVariants.{ByHead}
-use Rattle.finishing.specs.declared.Entry.TheVariants.{Vertex, Done}
 use Rattle.finishing.specs.Cursors.{body_vertex, has_operand, left_of, Linked}
 use Rattle.finishing.specs.Walking.{Looking, Looked}
 use Rattle.finishing.proofs.CursorLaws.{row_end, row_next, links_end, operand_next, link_next}
@@ -52,16 +52,13 @@ module _ {ed : Edition} {ws : List ℕ} (acc : Accepted ed ws) {b : Bases} {w : 
       ends : t ≤ length w
       ends = let a = k.ready.table.inside (v + 1) (let l = atom_low in omega arith) in let l = k.ready.table.long in let e = start_is (v + 1) in omega arith
 
-      pub start_place : s ≤ length w
-      start_place = let a = k.ready.table.inside v (let l = atom_low in omega arith) in let l = k.ready.table.long in let e = start_is v in omega arith
-
       row_is : slice s t w ≡ entries v (edges_of (theory_of ws) ByHead)
       row_is = ap₂ (λ (f g : ℕ). slice f g w) (es ∙ start_is v) (et ∙ start_is (v + 1)) ∙ k.ready.table.row v atom_low
 
       row_length : length (entries v (edges_of (theory_of ws) ByHead)) ≡ t - s
       row_length = sym (ap length row_is) ∙ length-slice s t w ends
 
-      pub atom_done : t ≤ s + c → Looked ws b w w v Done
+      pub atom_done : t ≤ s + c → Looked ws b w w v None
       atom_done h =
           let l = row_length in
           let e = row_end ws v c atom_low (omega arith) in
@@ -74,22 +71,29 @@ module _ {ed : Edition} {ws : List ℕ} (acc : Accepted ed ws) {b : Bases} {w : 
             took = (ap (left_of ws v) (sym ec) ∙ e, e);
           }
 
+      -- past the end of the row no cursor leaves anything
+      pub row_over : (e : ℕ) → t ≤ s + c → t ≤ s + e → left_of ws v (get_or w (b.dependencies + v) 0) ≡ left_of ws v e
+      row_over e h h' = let l = row_length in ap (left_of ws v) (sym ec) ∙ row_end ws v c atom_low (omega arith) ∙ sym (row_end ws v e atom_low (omega arith))
+
+      pub row_rises : s ≤ t
+      row_rises = let r = k.ready.table.rising v atom_low in let e = start_is v in let f = start_is (v + 1) in omega arith
+
+      pub row_few : t - s ≤ ed.entries
+      unfolding by_head
+      row_few =
+          let l = row_length in
+          let a = sum_one (v + 1) (λ r. length (entries r (edges_of (theory_of ws) ByHead))) v (omega arith) in
+          let d = rows_length (v + 1) (edges_of (theory_of ws) ByHead) in
+          let e = by_head_few (theory_of ws) in
+          let f = acc.head_total in
+          omega arith
+
       module _ (more : s + c < t) where
         pub entry_place : s + c < length w
         entry_place = let e = ends in omega arith
 
         shorter : c < length (entries v (edges_of (theory_of ws) ByHead))
         shorter = let l = row_length in omega arith
-
-        pub cursor_few : c + 1 ≤ ed.entries
-        unfolding by_head
-        cursor_few =
-            let l = shorter in
-            let a = sum_one (v + 1) (λ r. length (entries r (edges_of (theory_of ws) ByHead))) v (omega arith) in
-            let d = rows_length (v + 1) (edges_of (theory_of ws) ByHead) in
-            let e = by_head_few (theory_of ws) in
-            let f = acc.head_total in
-            omega arith
 
         module _ {p : ℕ} (ep : p ≡ get_or w (s + c) 0) where
           producer_is : p ≡ get_or (entries v (edges_of (theory_of ws) ByHead)) c 0
@@ -125,7 +129,7 @@ module _ {ed : Edition} {ws : List ℕ} (acc : Accepted ed ws) {b : Bases} {w : 
             vertex_is zero z = absurd (z refl)
             vertex_is (suc m) z = let e : (theory_of ws).atoms + m ≡ b.atoms + (suc m - 1) = let q = atoms_are k.ready.based in omega arith in ap (λ (x : ℕ). x ∷ []) e
 
-            pub atom_body : body ≢ 0 → Looked ws b w (set w (b.dependencies + v) (c + 1)) v (Vertex (b.atoms + (body - 1)))
+            pub atom_body : body ≢ 0 → Looked ws b w (set w (b.dependencies + v) (c + 1)) v (Some (b.atoms + (body - 1)))
             atom_body z = record { moved = record { cursor = c + 1; stored = refl; linked = row_linked (c + 1) }; took = next_is (vertex_is body z) }
 
   -- ---- a node
@@ -134,7 +138,7 @@ module _ {ed : Edition} {ws : List ℕ} (acc : Accepted ed ws) {b : Bases} {w : 
     node_high : (theory_of ws).atoms ≤ v
     node_high = let e = atoms_are k.ready.based in omega arith
 
-    pub node_done : c ≡ 0 → Looked ws b w w v Done
+    pub node_done : c ≡ 0 → Looked ws b w w v None
     node_done z =
         let e = links_end ws v node_high refl c z in
         record {
@@ -150,7 +154,7 @@ module _ {ed : Edition} {ws : List ℕ} (acc : Accepted ed ws) {b : Bases} {w : 
       node_is : v - b.atoms ≡ v - (theory_of ws).atoms
       node_is = ap (λ (n : ℕ). v - n) (atoms_are k.ready.based)
 
-      pub node_operand : has_operand ws (v - b.atoms) ≡ true → {x : ℕ} → x ≡ get_or ws (node_at (v - b.atoms) + 1) 0 → Looked ws b w (set w (b.dependencies + v) 0) v (Vertex x)
+      pub node_operand : has_operand ws (v - b.atoms) ≡ true → {x : ℕ} → x ≡ get_or ws (node_at (v - b.atoms) + 1) 0 → Looked ws b w (set w (b.dependencies + v) 0) v (Some x)
       node_operand q ex = record {
         moved = record { cursor = 0; stored = refl; linked = λ h f. clash q (ap (has_operand ws) node_is ∙ f) };
         took = ap (left_of ws v) (sym ec) ∙ operand_next ws v node_high node_is c some q ∙ ap (λ (y : ℕ). y ∷ left_of ws v 0) (the_operand ws (v - b.atoms) ∙ sym ex);
@@ -163,7 +167,7 @@ module _ {ed : Edition} {ws : List ℕ} (acc : Accepted ed ws) {b : Bases} {w : 
         pub next_few : next_of ws c ≤ ed.links
         next_few = let a = once_link ws (once_next ws link_ends some) in let l = acc.links_few in omega arith
 
-        pub node_leaf : {y x : ℕ} → y ≡ next_of ws c → x ≡ value_of ws c → Looked ws b w (set w (b.dependencies + v) y) v (Vertex (b.atoms + x))
+        pub node_leaf : {y x : ℕ} → y ≡ next_of ws c → x ≡ value_of ws c → Looked ws b w (set w (b.dependencies + v) y) v (Some (b.atoms + x))
         node_leaf {y} {x} ey ex = record {
           moved = record { cursor = y; stored = refl; linked = λ h f. subst (MeetsOnce ws) (sym ey) (once_next ws link_ends some) };
           took =

@@ -4,10 +4,11 @@ use mathlib.Core.Path.{◌≡◌, refl, sym, ap, ◌∙◌, subst}
 use mathlib.Core.Logic.{◌≢◌}
 use mathlib.Core.Bool.{Bool, true, false}
 use mathlib.Core.List.{List}
+use Rattle.std.specs.Prelude.{Option, Some, None}
 use Prim.Native.Nat.{ℕ, ◌+◌, ◌-◌, ◌≤◌, ◌<◌}
 use native.Mathlib.Omega.{arith}
 use lib.Dec.{eqb}
-use lib.ListN.{length, get_or, set, length-set}
+use lib.ListN.{length, get_or, set}
 use lib.Seq.{get_or-set_same, get_or-set_other, set-get_or, set-set}
 use Rattle.theory.specs.Words.{node_at, producer_at, value_of, next_of, theory_of}
 use Rattle.theory.specs.Links.{MeetsOnce}
@@ -18,8 +19,6 @@ use Rattle.graph.specs.Layout.{ProducerIn}
 use Rattle.area.specs.declared.Bases.{Bases}
 use Rattle.area.specs.Views.{mark_in}
 use Rattle.adjacency.specs.Tables.{start_at}
-use Rattle.finishing.specs.declared.Entry.{Entry}
-use Rattle.finishing.specs.declared.Entry.TheVariants.{Vertex, Done}
 use Rattle.finishing.specs.Cursors.{has_operand, left_of, first_of, Linked}
 use Rattle.finishing.specs.Finished.{Ready}
 use Rattle.finishing.specs.Walking.{Walking, OnTop, Looking, Looked, discovered, Meeting, Onward, Passed, Found, Stepped}
@@ -79,7 +78,7 @@ module _ {ws : List ℕ} {b : Bases} {w : List ℕ} {v top done : ℕ} (o : OnTo
     passed_same : (c' : ℕ) → Linked ws v c' → left_of ws v (get_or kept (b.dependencies + v) 0) ≡ left_of ws v c' → Passed ws b w v c' top done
     passed_same c' l e = passed_on c' (step_same on_top.walking o.some on_top.top_is record { cursor = c'; stored = refl; linked = l } e)
 
-    module _ {ed : Edition} (acc : Accepted ed ws) (c' : ℕ) {x : ℕ} (k : Looked ws b kept (set kept (b.dependencies + v) c') v (Vertex x)) where
+    module _ {ed : Edition} (acc : Accepted ed ws) (c' : ℕ) {x : ℕ} (k : Looked ws b kept (set kept (b.dependencies + v) c') v (Some x)) where
       pub entry_under : x < vertices (theory_of ws)
       entry_under = entry_low on_top.walking o.some on_top.top_is acc k
 
@@ -101,7 +100,7 @@ module _ (b : Bases) {w w' : List ℕ} (x : ℕ) {r : Bool} (e : w' ≡ w) (s : 
 
 -- a step, from where the look found its entry
 module _ {ws : List ℕ} {b : Bases} {w w₁ : List ℕ} {v top done : ℕ} (o : OnTop ws b w v top done) where
-  module _ {r : Entry} (f : Found ws b w w₁ v r) where
+  module _ {r : Option ℕ} (f : Found ws b w w₁ v r) where
     there : OnTop ws b (set w (b.dependencies + v) f.cursor) v top done
     there = on_top o (f.passed top done o)
 
@@ -111,7 +110,7 @@ module _ {ws : List ℕ} {b : Bases} {w w₁ : List ℕ} {v top done : ℕ} (o :
     found_ready : Ready ws b w₁
     found_ready = looked_ready there.walking there.some there.top_is f.looked.moved
 
-  module _ (f : Found ws b w w₁ v Done) where
+  module _ (f : Found ws b w w₁ v None) where
     done_room : done < vertices (theory_of ws)
     done_room = step.done_room (there f).walking o.some (there f).top_is f.looked
 
@@ -123,7 +122,7 @@ module _ {ws : List ℕ} {b : Bases} {w w₁ : List ℕ} {v top done : ℕ} (o :
     pub done_step : Stepped ws b w (set w₁ (b.body_nodes + done) v) (top - 1) (done + 1) done
     done_step = from_there f (step_done (there f).walking o.some (there f).top_is f.looked)
 
-  module _ {ed : Edition} (acc : Accepted ed ws) {x : ℕ} (f : Found ws b w w₁ v (Vertex x)) where
+  module _ {ed : Edition} (acc : Accepted ed ws) {x : ℕ} (f : Found ws b w w₁ v (Some x)) where
     pub vertex_meeting : Meeting ws b w₁ x top
     vertex_meeting = entry_meeting (there f).walking o.some (there f).top_is acc f.looked f.fresh
 
@@ -141,7 +140,7 @@ module _ {ws : List ℕ} {b : Bases} {w w₁ : List ℕ} {v top done : ℕ} (o :
     vertex_first = let m = vertex_meeting in found_first m.ready x m.low top m.room
 
 -- a look that finds nothing, without passing over anything
-pub found_none : {ws : List ℕ} {b : Bases} {w w' : List ℕ} {v : ℕ} → Looked ws b w w' v Done → Found ws b w w' v Done
+pub found_none : {ws : List ℕ} {b : Bases} {w w' : List ℕ} {v : ℕ} → Looked ws b w w' v None → Found ws b w w' v None
 found_none {ws} {b} {w} {w'} {v} k = record {
   cursor = get_or w (b.dependencies + v) 0;
   passed = λ top done o. passed_none o refl;
@@ -155,7 +154,7 @@ module _ {ed : Edition} {ws : List ℕ} (acc : Accepted ed ws) {b : Bases} {w : 
   p : Passed ws b w v c top done
   p = all top done o
 
-  found : (c' : ℕ) {x : ℕ} → Looked ws b (kept o p) (set (kept o p) (b.dependencies + v) c') v (Vertex x) → mark_in b w x ≡ 1 → Found ws b w (set w (b.dependencies + v) c') v (Vertex x)
+  found : (c' : ℕ) {x : ℕ} → Looked ws b (kept o p) (set (kept o p) (b.dependencies + v) c') v (Some x) → mark_in b w x ≡ 1 → Found ws b w (set w (b.dependencies + v) c') v (Some x)
   found c' {x} k m = record {
     cursor = c;
     passed = all;
@@ -163,23 +162,23 @@ module _ {ed : Edition} {ws : List ℕ} (acc : Accepted ed ws) {b : Bases} {w : 
     fresh = look_marks o.walking.ready v (top_under o) c' x (entry_under o p acc c' k) ∙ m;
   }
 
-  found_end : Looked ws b (kept o p) (kept o p) v Done → Found ws b w (set w (b.dependencies + v) c) v Done
+  found_end : Looked ws b (kept o p) (kept o p) v None → Found ws b w (set w (b.dependencies + v) c) v None
   found_end k = record { cursor = c; passed = all; looked = k; fresh = tt }
 
   -- ---- the operand or the leaves of a node
 
   module _ (high : b.atoms ≤ v) where
-    pub inputs_done : c ≡ 0 → Found ws b w (set w (b.dependencies + v) 0) v Done
-    inputs_done z = subst (λ (i : ℕ). Found ws b w (set w (b.dependencies + v) i) v Done) z (found_end (look.node_done acc (next_looking o p) high (cursor_is o p) z))
+    pub inputs_done : c ≡ 0 → Found ws b w (set w (b.dependencies + v) 0) v None
+    inputs_done z = subst (λ (i : ℕ). Found ws b w (set w (b.dependencies + v) i) v None) z (found_end (look.node_done acc (next_looking o p) high (cursor_is o p) z))
 
     module _ (q : has_operand ws (v - b.atoms) ≡ true) (some : c ≢ 0) {x : ℕ} (ex : x ≡ get_or ws (node_at (v - b.atoms) + 1) 0) where
-      operand_looked : Looked ws b (kept o p) (set (kept o p) (b.dependencies + v) 0) v (Vertex x)
+      operand_looked : Looked ws b (kept o p) (set (kept o p) (b.dependencies + v) 0) v (Some x)
       operand_looked = look.node_operand acc (next_looking o p) high (cursor_is o p) some q ex
 
       pub operand_under : x < vertices (theory_of ws)
       operand_under = entry_under o p acc 0 operand_looked
 
-      pub operand_found : mark_in b w x ≡ 1 → Found ws b w (set w (b.dependencies + v) 0) v (Vertex x)
+      pub operand_found : mark_in b w x ≡ 1 → Found ws b w (set w (b.dependencies + v) 0) v (Some x)
       operand_found = found 0 operand_looked
 
       pub operand_passed : mark_in b w x ≢ 1 → Passed ws b w v 0 top done
@@ -193,13 +192,13 @@ module _ {ed : Edition} {ws : List ℕ} (acc : Accepted ed ws) {b : Bases} {w : 
       leaf_few = look.next_few acc (next_looking o p) high (cursor_is o p) some q
 
       module _ (c' : ℕ) {x : ℕ} (ec : c' ≡ next_of ws c) (ex : x ≡ value_of ws c) where
-        leaf_looked : Looked ws b (kept o p) (set (kept o p) (b.dependencies + v) c') v (Vertex (b.atoms + x))
+        leaf_looked : Looked ws b (kept o p) (set (kept o p) (b.dependencies + v) c') v (Some (b.atoms + x))
         leaf_looked = look.node_leaf acc (next_looking o p) high (cursor_is o p) some q ec ex
 
         pub leaf_under : b.atoms + x < vertices (theory_of ws)
         leaf_under = entry_under o p acc c' leaf_looked
 
-        pub leaf_found : mark_in b w (b.atoms + x) ≡ 1 → Found ws b w (set w (b.dependencies + v) c') v (Vertex (b.atoms + x))
+        pub leaf_found : mark_in b w (b.atoms + x) ≡ 1 → Found ws b w (set w (b.dependencies + v) c') v (Some (b.atoms + x))
         leaf_found = found c' leaf_looked
 
         pub leaf_passed : mark_in b w (b.atoms + x) ≢ 1 → Passed ws b w v c' top done
@@ -217,11 +216,20 @@ module _ {ed : Edition} {ws : List ℕ} (acc : Accepted ed ws) {b : Bases} {w : 
     et' : t ≡ start_at (kept o p) b.by_head b.atoms (v + 1)
     et' = et ∙ start_is (v + 1) (omega arith)
 
-    pub row_done : t ≤ s + c → Found ws b w (set w (b.dependencies + v) c) v Done
+    pub row_done : t ≤ s + c → Found ws b w (set w (b.dependencies + v) c) v None
     row_done h = found_end (look.atom_done acc (next_looking o p) low (cursor_is o p) es' et' h)
 
-    pub start_place : s ≤ length w
-    start_place = let e = length-set w (b.dependencies + v) c in let l = look.start_place acc (next_looking o p) low (cursor_is o p) es' et' in omega arith
+    -- a cursor past the end of the row may stand further on, or less far
+    pub row_passed : (e : ℕ) → t ≤ s + c → t ≤ s + e → Passed ws b w v e top done
+    row_passed e h h' =
+        passed_same o p e (look.row_linked acc (next_looking o p) low (cursor_is o p) e)
+        (look.row_over acc (next_looking o p) low (cursor_is o p) es' et' e h h')
+
+    pub row_rises : s ≤ t
+    row_rises = look.row_rises acc (next_looking o p) low (cursor_is o p) es' et'
+
+    pub row_few : t - s ≤ ed.entries
+    row_few = look.row_few acc (next_looking o p) low (cursor_is o p) es' et'
 
     module _ (more : s + c < t) where
       under : s + c < b.states
@@ -234,9 +242,6 @@ module _ {ed : Edition} {ws : List ℕ} (acc : Accepted ed ws) {b : Bases} {w : 
 
       pub entry_place : s + c < length w
       entry_place = let u = under in let a = o.walking.ready.based.laid in let z = o.walking.ready.based.ends in omega arith
-
-      pub cursor_few : c + 1 ≤ ed.entries
-      cursor_few = look.cursor_few acc (next_looking o p) low (cursor_is o p) es' et' more
 
       module _ {n : ℕ} (en : n ≡ get_or w (s + c) 0) where
         en' : n ≡ get_or (kept o p) (s + c) 0
@@ -255,10 +260,10 @@ module _ {ed : Edition} {ws : List ℕ} (acc : Accepted ed ws) {b : Bases} {w : 
             pub body_fits : b.atoms + (body - 1) < b.atoms + b.nodes
             body_fits = look.body_fits acc (next_looking o p) low (cursor_is o p) es' et' more en' eb z
 
-            body_looked : Looked ws b (kept o p) (set (kept o p) (b.dependencies + v) (c + 1)) v (Vertex (b.atoms + (body - 1)))
+            body_looked : Looked ws b (kept o p) (set (kept o p) (b.dependencies + v) (c + 1)) v (Some (b.atoms + (body - 1)))
             body_looked = look.atom_body acc (next_looking o p) low (cursor_is o p) es' et' more en' eb z
 
-            pub body_found : mark_in b w (b.atoms + (body - 1)) ≡ 1 → Found ws b w (set w (b.dependencies + v) (c + 1)) v (Vertex (b.atoms + (body - 1)))
+            pub body_found : mark_in b w (b.atoms + (body - 1)) ≡ 1 → Found ws b w (set w (b.dependencies + v) (c + 1)) v (Some (b.atoms + (body - 1)))
             body_found = found (c + 1) body_looked
 
             pub body_passed : mark_in b w (b.atoms + (body - 1)) ≢ 1 → Passed ws b w v (c + 1) top done

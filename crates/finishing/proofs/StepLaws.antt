@@ -4,6 +4,7 @@ use mathlib.Core.Path.{◌≡◌, refl, sym, ap, ◌∙◌, subst}
 use mathlib.Core.Logic.{◌⊎◌, inl, inr, ◌≢◌}
 use mathlib.Core.List.Memᴰ
 use mathlib.Core.List.{List, ◌∷◌}
+use Rattle.std.specs.Prelude.{Some, None}
 use Prim.Native.Nat.{ℕ, ◌+◌, ◌-◌, ◌≤◌, ◌<◌}
 use native.Mathlib.Omega.{arith}
 use native.Mathlib.Decide.{ℕ_discrete}
@@ -17,7 +18,6 @@ use Rattle.theory.proofs.CountLaws.{pigeonhole, sum_le, sum_less}
 use Rattle.theory.proofs.ConeLaws.{cone_within}
 use Rattle.theory.proofs.SearchLaws.{fin_fits, stack_fits, search_same, entry_edge, search_known, search_new, search_finish}
 use Rattle.area.specs.declared.Bases.{Bases}
-use Rattle.finishing.specs.declared.Entry.TheVariants.{Vertex, Done}
 use Rattle.area.specs.Views.{mark_in}
 use Rattle.finishing.specs.Latest.{latest}
 use Rattle.finishing.specs.Cursors.{left_of, Linked}
@@ -155,7 +155,7 @@ module _ {ws : List ℕ} {b : Bases} {w : List ℕ} {top done : ℕ} (h : Walkin
               least = let n = no_more looked_kept (λ u l. refl) level done (omega arith) done_fits in omega arith;
             }
 
-      module _ {ed : Edition} (acc : Accepted ed ws) {w₁ : List ℕ} {x : ℕ} (k : Looked ws b w w₁ v (Vertex x)) where
+      module _ {ed : Edition} (acc : Accepted ed ws) {w₁ : List ℕ} {x : ℕ} (k : Looked ws b w w₁ v (Some x)) where
         next : entries_in ws b w v ≡ x ∷ left_of ws v k.moved.cursor
         next = before k.took
 
@@ -218,7 +218,7 @@ module _ {ws : List ℕ} {b : Bases} {w : List ℕ} {top done : ℕ} (h : Walkin
               met u l n q (yes e) = n (ap (mark_in b w) e ∙ unmet)
               met u l n q (no m) = n (sym (marks u l m) ∙ q)
 
-      module _ {w₁ : List ℕ} (k : Looked ws b w w₁ v Done) where
+      module _ {w₁ : List ℕ} (k : Looked ws b w w₁ v None) where
         finished : Over ws (latest w b.queue (top - 1)) (v ∷ latest w b.body_nodes done) (mark_in b w) (λ u. entries_in ws b w u)
         finished = search_finish on_top (before k.took.0)
 

@@ -1,15 +1,13 @@
 -- What a cursor leaves of a vertex's predecessors. The cursor of an atom is a position in its row of producers, where a fact leads nowhere. That
 -- of a node that takes an operand is 1, and 0 once the operand has been looked at; that of any other node is the number of the next link of its
 -- chain of leaves.
-use Rattle.std.specs.Prelude.{◌≡◌, Bool, true, false, cond, List, [], ◌∷◌, map, ℕ, zero, suc, ◌+◌, ◌-◌, ◌≤◌, eqb, ltb, get_or, drop}
+use Rattle.std.specs.Prelude.{◌≡◌, Bool, true, false, cond, List, [], ◌∷◌, Option, Some, None, map, ℕ, zero, suc, ◌+◌, ◌-◌, ◌≤◌, eqb, ltb, get_or, drop}
 use Rattle.theory.specs.Rows.{entries, flat_map}
 use Rattle.theory.specs.Words.{node_at, chain, theory_of}
 use Rattle.theory.specs.Links.{MeetsOnce}
 use Rattle.graph.specs.Kinds.{takes_operand}
 use Rattle.adjacency.specs.Tables.{edges_of}
 use Rattle.adjacency.specs.declared.Table.TheVariants.{ByHead}
-use Rattle.finishing.specs.declared.Entry.{Entry}
-use Rattle.finishing.specs.declared.Entry.TheVariants.{Vertex, Done}
 
 module _ (ws : List ℕ) where
   -- the vertex of a body; a fact has none
@@ -44,6 +42,6 @@ module _ (ws : List ℕ) where
   Linked v c = (theory_of ws).atoms ≤ v → has_operand (v - (theory_of ws).atoms) ≡ false → MeetsOnce ws c
 
 -- what a look finds, where l is left before and l' after
-abbrev pub Took : Entry → List ℕ → List ℕ → Type 0
-Took (Vertex x) l l' = l ≡ x ∷ l'
-Took Done l l' = (l ≡ []) × (l' ≡ [])
+abbrev pub Took : Option ℕ → List ℕ → List ℕ → Type 0
+Took (Some x) l l' = l ≡ x ∷ l'
+Took None l l' = (l ≡ []) × (l' ≡ [])

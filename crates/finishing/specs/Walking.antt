@@ -1,13 +1,11 @@
 -- How the words hold the first walk: marks, cursors, the stack from `queue` on and the finished vertices from `body_nodes` on; and what each
 -- function of the walk does to them.
-use Rattle.std.specs.Prelude.{◌≡◌, ◌≢◌, cond, List, ℕ, ◌+◌, ◌-◌, ◌≤◌, ◌<◌, eqb, length, get_or, set}
+use Rattle.std.specs.Prelude.{◌≡◌, ◌≢◌, cond, List, Option, Some, None, ℕ, ◌+◌, ◌-◌, ◌≤◌, ◌<◌, eqb, length, get_or, set}
 use Rattle.theory.specs.Sets.{sum_below}
 use Rattle.theory.specs.Words.{theory_of}
 use Rattle.theory.specs.Edges.{vertices, in_graph, cone_preds}
 use Rattle.theory.specs.Search.{Searching}
 use Rattle.area.specs.declared.Bases.{Bases}
-use Rattle.finishing.specs.declared.Entry.{Entry}
-use Rattle.finishing.specs.declared.Entry.TheVariants.{Vertex, Done}
 use Rattle.area.specs.Views.{mark_of, mark_in}
 use Rattle.finishing.specs.Latest.{latest}
 use Rattle.finishing.specs.Finished.{Kept, Ready}
@@ -43,7 +41,7 @@ module _ (ws : List ℕ) (b : Bases) where
     pub linked : Linked ws v cursor
 
   -- a look moves it past what it finds
-  pub record Looked (w w' : List ℕ) (v : ℕ) (r : Entry) : Type 0 where
+  pub record Looked (w w' : List ℕ) (v : ℕ) (r : Option ℕ) : Type 0 where
     pub moved : Moved w w' v
     pub took : Took r (left_of ws v (get_or w (b.dependencies + v) 0)) (left_of ws v moved.cursor)
 
@@ -85,16 +83,16 @@ module _ (ws : List ℕ) (b : Bases) where
     pub less : ahead w' done < ahead w done₀
 
   -- a vertex that is found is still to be met
-  abbrev pub Fresh : List ℕ → Entry → Type 0
-  Fresh w (Vertex x) = mark_in b w x ≡ 1
-  Fresh w Done = Unit {0}
+  abbrev pub Fresh : List ℕ → Option ℕ → Type 0
+  Fresh w (Some x) = mark_in b w x ≡ 1
+  Fresh w None = Unit {0}
 
   -- the walk, were c the cursor of v: what is before c leads to vertices that are met, or nowhere
   pub record Passed (w : List ℕ) (v c top done : ℕ) : Type 0 where
     pub onward : Onward w (set w (b.dependencies + v) c) top done done
 
   -- that is passed over, and the next entry is r
-  pub record Found (w w' : List ℕ) (v : ℕ) (r : Entry) : Type 0 where
+  pub record Found (w w' : List ℕ) (v : ℕ) (r : Option ℕ) : Type 0 where
     pub cursor : ℕ
     pub passed : (top done : ℕ) → OnTop w v top done → Passed w v cursor top done
     pub looked : Looked (set w (b.dependencies + v) cursor) w' v r

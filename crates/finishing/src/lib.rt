@@ -1,5 +1,5 @@
 // The first walk of Sharir (1981): from a vertex to its predecessors, with a stack and a cursor a vertex, which lists the vertices of preparation
-// in a finishing order. A vertex is marked 1 until it is met and 2 from then on; what is marked 0 is outside.
+// in a finishing order. A vertex is marked NEW until it is met and MET from then on; what is marked 0 is outside.
 #![tactic(auto)]
 
 ghost use Rattle.std.specs.Prelude.{◌≡◌, ◌≢◌, true, false, ℕ, ◌+◌, ◌-◌, ◌<◌, ◌≤◌, eqb, length, get_or, set};
@@ -15,12 +15,10 @@ ghost use Rattle.finishing.specs.Walking.{Walking, OnTop, Found, Meeting, discov
 use area::Bases;
 use words::Word;
 
-// What a look finds: a vertex that is still to be met, or nothing more.
-#[derive(Drop)]
-pub enum Entry {
-    Vertex(usize),
-    Done,
-}
+// The marks. A vertex outside has neither.
+const NEW: usize = 1;
+
+const MET: usize = 2;
 
 // How many vertices are on the stack, and how many are finished.
 #[derive(Drop)]
@@ -49,7 +47,7 @@ fn is_new<W: Word>(work: &[W], b: Bases, v: usize) -> bool
     requires { Laid b × (v < b.atoms + b.nodes) × (b.end ≤ length (W.numbers work.now)) }
     ensures { result ≡ eqb (mark_in b (W.numbers work.now) v) 1 }
 {
-    words::at(work, b.states + v) == 1
+    words::at(work, b.states + v) == NEW
 }
 
 // A vertex that is still to be met is marked, its cursor is set to its first entry, and it goes on the stack, above `top` others.
@@ -57,56 +55,53 @@ fn meet<W: Word>(graph: &[W], work: &mut [W], b: Bases, v: usize, top: usize)
     requires { Accepted W.edition (W.numbers graph.now) × Meeting (W.numbers graph.now) b (W.numbers work.old) v top }
     ensures { (W.numbers work.new) ≡ discovered (W.numbers graph.now) b (W.numbers work.old) v top }
 {
-    words::put(work, b.states + v, 2);
+    words::put(work, b.states + v, MET);
     words::put(work, b.dependencies + v, first_entry(graph, b, v));
     words::put(work, b.queue + top, v);
 }
 
 // The body, still to be met, of the next producer with head a that has one.
-fn look_atom<W: Word>(graph: &[W], work: &mut [W], b: Bases, a: usize) -> Entry
+fn look_atom<W: Word>(graph: &[W], work: &mut [W], b: Bases, a: usize) -> Option<usize>
     requires { Accepted W.edition (W.numbers graph.now) × ((top : ℕ) × (done : ℕ) × OnTop (W.numbers graph.now) b (W.numbers work.old) a top done) × (a < b.atoms) }
     ensures { Found (W.numbers graph.now) b (W.numbers work.old) (W.numbers work.new) a result }
 {
     let place = b.dependencies + a;
     let start = adjacency::row_start(work, b.by_head, b.atoms, a);
     let end = adjacency::row_start(work, b.by_head, b.atoms, a + 1);
-    let mut cursor = words::at(work, place);
-    while start + cursor < end {
+    for cursor in words::at(work, place)..end - start {
         let body = graph::body(graph, words::at(work, start + cursor));
-        cursor += 1;
-        if body > 0 {
-            if is_new(work, b, b.atoms + (body - 1)) {
-                words::put(work, place, cursor);
-                return Entry::Vertex(b.atoms + (body - 1));
-            }
+        if body > 0 && is_new(work, b, b.atoms + (body - 1)) {
+            words::put(work, place, cursor + 1);
+            return Some(b.atoms + (body - 1));
         }
     }
-    words::put(work, place, cursor);
-    Entry::Done
+    words::put(work, place, end - start);
+    None
 }
 
 // The next leaf of a node that is still to be met.
-fn look_leaf<W: Word>(graph: &[W], work: &mut [W], b: Bases, v: usize) -> Entry
+fn look_leaf<W: Word>(graph: &[W], work: &mut [W], b: Bases, v: usize) -> Option<usize>
     requires { Accepted W.edition (W.numbers graph.now) × ((top : ℕ) × (done : ℕ) × OnTop (W.numbers graph.now) b (W.numbers work.old) v top done) × (b.atoms ≤ v) × (has_operand (W.numbers graph.now) (v - b.atoms) ≡ false) }
     ensures { Found (W.numbers graph.now) b (W.numbers work.old) (W.numbers work.new) v result }
 {
     let from = graph::links_from(graph);
     let place = b.dependencies + v;
     let mut cursor = words::at(work, place);
+    // a chain: each link names the next
     while cursor > 0 {
         let leaf = graph::value(graph, from, cursor);
         cursor = graph::next(graph, from, cursor);
         if is_new(work, b, b.atoms + leaf) {
             words::put(work, place, cursor);
-            return Entry::Vertex(b.atoms + leaf);
+            return Some(b.atoms + leaf);
         }
     }
     words::put(work, place, 0);
-    Entry::Done
+    None
 }
 
 // The operand of a node, which has not been looked at, unless it has been met.
-fn take_operand<W: Word>(graph: &[W], work: &mut [W], b: Bases, v: usize) -> Entry
+fn take_operand<W: Word>(graph: &[W], work: &mut [W], b: Bases, v: usize) -> Option<usize>
     requires accepted { Accepted W.edition (W.numbers graph.now) × ((top : ℕ) × (done : ℕ) × OnTop (W.numbers graph.now) b (W.numbers work.old) v top done) × (b.atoms ≤ v) × (has_operand (W.numbers graph.now) (v - b.atoms) ≡ true) }
     requires v_nonzero { get_or (W.numbers work.old) (b.dependencies + v) 0 ≢ 0 }
     ensures { Found (W.numbers graph.now) b (W.numbers work.old) (W.numbers work.new) v result }
@@ -115,24 +110,24 @@ fn take_operand<W: Word>(graph: &[W], work: &mut [W], b: Bases, v: usize) -> Ent
     let new = is_new(work, b, operand);
     words::put(work, b.dependencies + v, 0);
     if new {
-        return Entry::Vertex(operand);
+        return Some(operand);
     }
-    Entry::Done
+    None
 }
 
 // The operand of a node, unless it has been looked at or met.
-fn look_operand<W: Word>(graph: &[W], work: &mut [W], b: Bases, v: usize) -> Entry
+fn look_operand<W: Word>(graph: &[W], work: &mut [W], b: Bases, v: usize) -> Option<usize>
     requires { Accepted W.edition (W.numbers graph.now) × ((top : ℕ) × (done : ℕ) × OnTop (W.numbers graph.now) b (W.numbers work.old) v top done) × (b.atoms ≤ v) × (has_operand (W.numbers graph.now) (v - b.atoms) ≡ true) }
     ensures { Found (W.numbers graph.now) b (W.numbers work.old) (W.numbers work.new) v result }
 {
     if words::at(work, b.dependencies + v) == 0 {
-        return Entry::Done;
+        return None;
     }
     take_operand(graph, work, b, v)
 }
 
 // The next entry of a vertex that leads to one still to be met; the cursor goes past it.
-fn look<W: Word>(graph: &[W], work: &mut [W], b: Bases, v: usize) -> Entry
+fn look<W: Word>(graph: &[W], work: &mut [W], b: Bases, v: usize) -> Option<usize>
     requires { Accepted W.edition (W.numbers graph.now) × ((top : ℕ) × (done : ℕ) × OnTop (W.numbers graph.now) b (W.numbers work.old) v top done) }
     ensures { Found (W.numbers graph.now) b (W.numbers work.old) (W.numbers work.new) v result }
 {
@@ -175,10 +170,9 @@ fn through<W: Word>(
     if !graph::takes_operand(graph::kind(graph, v - b.atoms)) {
         return Tops { top, done };
     }
-    let entry = take_operand(graph, work, b, v);
-    match entry {
-        Entry::Done => finish(work, b, v, top, done),
-        Entry::Vertex(a) => {
+    match take_operand(graph, work, b, v) {
+        None => finish(work, b, v, top, done),
+        Some(a) => {
             meet(graph, work, b, a, top);
             Tops { top: top + 1, done }
         }
@@ -191,10 +185,9 @@ fn step<W: Word>(graph: &[W], work: &mut [W], b: Bases, top: usize, done: usize)
     ensures { Stepped (W.numbers graph.now) b (W.numbers work.old) (W.numbers work.new) result.top result.done done }
 {
     let v = words::at(work, b.queue + (top - 1));
-    let entry = look(graph, work, b, v);
-    match entry {
-        Entry::Done => finish(work, b, v, top, done),
-        Entry::Vertex(x) => {
+    match look(graph, work, b, v) {
+        None => finish(work, b, v, top, done),
+        Some(x) => {
             meet(graph, work, b, x, top);
             through(graph, work, b, x, top + 1, done)
         }
@@ -220,6 +213,7 @@ fn descend<W: Word>(graph: &[W], work: &mut [W], b: Bases, root: usize, done: us
 {
     let mut top = enter(graph, work, b, root);
     let mut n = done;
+    // a stack: how many steps are left shows only at each step
     while top > 0 {
         let tops = step(graph, work, b, top, n);
         top = tops.top;
@@ -234,10 +228,8 @@ pub fn finish_order<W: Word>(graph: &[W], work: &mut [W], b: Bases) -> usize
     ensures { Finished (W.numbers graph.now) b (W.numbers work.old) (W.numbers work.new) result }
 {
     let mut done: usize = 0;
-    let mut root: usize = 0;
-    while root < b.atoms + b.nodes {
+    for root in 0..b.atoms + b.nodes {
         done = descend(graph, work, b, root, done);
-        root += 1;
     }
     done
 }

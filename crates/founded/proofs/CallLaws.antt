@@ -21,17 +21,15 @@ use Rattle.mask.specs.Mask.{words_of}
 use Rattle.refusals.specs.Answer.{accept, refuse, refuse_if, or_next, first_refusal}
 use Rattle.refusals.specs.Refusals.{graph_rows, graph_answer}
 use Rattle.refusals.proofs.RowLaws.{rows_append}
-use Rattle.founded.specs.declared.Prepared.{Prepared}
-use Rattle.founded.specs.declared.Prepared.TheVariants.{Done}
-use Rattle.founded.specs.declared.Completed.{Completed}
-use Rattle.founded.specs.declared.Completed.TheVariants.{Done as AllDone}
-use Rattle.founded.specs.Answers.{prepared_of, completed_of, bad_mask, bad_lengths, bad_work, absorbed_row, prepare_answer, complete_answer, Prepares, Completes}
+use Rattle.founded.specs.declared.CallError.{CallError}
+use Rattle.std.specs.Prelude.{Result, Ok}
+use Rattle.founded.specs.Answers.{call_of, bad_mask, bad_lengths, bad_work, absorbed_row, prepare_answer, complete_answer, Prepares, Completes}
 use Rattle.founded.proofs.OutcomeLaws.{Answered}
 use Rattle.founded.proofs.OutputLaws.{cyclic_list, missing_list}
 
-pub prepares : {ed : Edition} {ws output work output' work' : List ℕ} {r : Prepared}
-    → Answered ed ws (bad_mask (get_or ws 1 0) (length output)) (bad_work ed ws (length work)) (cyclic (theory_of ws)) output work output' work' (prepared_of r)
-    → ((prepared_of r).number ≡ 0 → r ≡ Done) → Prepares ed ws output work output' work' r
+pub prepares : {ed : Edition} {ws output work output' work' : List ℕ} {r : Result (Unit {0}) CallError}
+    → Answered ed ws (bad_mask (get_or ws 1 0) (length output)) (bad_work ed ws (length work)) (cyclic (theory_of ws)) output work output' work' (call_of r)
+    → ((call_of r).number ≡ 0 → r ≡ Ok (tt {0})) → Prepares ed ws output work output' work' r
 unfolding prepare_answer
 prepares {ws = ws} {r = r} h d = record {
   answer = h.answer;
@@ -39,12 +37,12 @@ prepares {ws = ws} {r = r} h d = record {
   absorbed = h.absorbed;
   output_after = h.output_after;
   work_after = h.work_after;
-  closed_walk = λ q a. rw (h.output_after, eq-eqb (prepared_of r).number 0 q, cyclic_list ws) (cyclic_walk (theory_of ws) a);
+  closed_walk = λ q a. rw (h.output_after, eq-eqb (call_of r).number 0 q, cyclic_list ws) (cyclic_walk (theory_of ws) a);
 }
 
-pub completes : {ed : Edition} {ws never atom_never output work output' work' : List ℕ} {r : Completed}
-    → Answered ed ws (bad_lengths ws (length never) (length atom_never) (length output)) (bad_work ed ws (length work)) (missing (theory_of ws) (bit_at never) (bit_at atom_never)) output work output' work' (completed_of r)
-    → ((completed_of r).number ≡ 0 → r ≡ AllDone) → Completes ed ws never atom_never output work output' work' r
+pub completes : {ed : Edition} {ws never atom_never output work output' work' : List ℕ} {r : Result (Unit {0}) CallError}
+    → Answered ed ws (bad_lengths ws (length never) (length atom_never) (length output)) (bad_work ed ws (length work)) (missing (theory_of ws) (bit_at never) (bit_at atom_never)) output work output' work' (call_of r)
+    → ((call_of r).number ≡ 0 → r ≡ Ok (tt {0})) → Completes ed ws never atom_never output work output' work' r
 unfolding complete_answer
 completes {ws = ws} {never = never} {atom_never = atom_never} {r = r} h d = record {
   answer = h.answer;
@@ -52,7 +50,7 @@ completes {ws = ws} {never = never} {atom_never = atom_never} {r = r} h d = reco
   absorbed = h.absorbed;
   output_after = h.output_after;
   work_after = h.work_after;
-  demand_3 = λ q a. rw (h.output_after, eq-eqb (completed_of r).number 0 q, missing_list ws (bit_at never) (bit_at atom_never)) (missing_exactly (theory_of ws) (bit_at never) (bit_at atom_never) a);
+  demand_3 = λ q a. rw (h.output_after, eq-eqb (call_of r).number 0 q, missing_list ws (bit_at never) (bit_at atom_never)) (missing_exactly (theory_of ws) (bit_at never) (bit_at atom_never) a);
 }
 
 -- a refusal's number is not that of success
@@ -87,10 +85,10 @@ absorbed_last th p = go (filled (absorbed_in th))
     go false = refl
 
 -- nothing but row 12 is left for the pass to refuse
-pub last_row : {ed : Edition} {ws never atom_never output work output' work' : List ℕ} {r : Completed} → graph_answer ed ws ≡ accept
+pub last_row : {ed : Edition} {ws never atom_never output work output' work' : List ℕ} {r : Result (Unit {0}) CallError} → graph_answer ed ws ≡ accept
     → bad_lengths ws (length never) (length atom_never) (length output) ≡ false → bad_work ed ws (length work) ≡ false
-    → Completes ed ws never atom_never output work output' work' r → completed_of r ≡ absorbed_row (theory_of ws) (completed_of r).place
+    → Completes ed ws never atom_never output work output' work' r → call_of r ≡ absorbed_row (theory_of ws) (call_of r).place
 unfolding complete_answer graph_answer first_refusal
 last_row {ed} {ws} {never} {atom_never} {output} {work} {r = r} ok lengths area h =
-    let rest = refuse_if 10 (bad_lengths ws (length never) (length atom_never) (length output)) ∷ refuse_if 11 (bad_work ed ws (length work)) ∷ absorbed_row (theory_of ws) (completed_of r).place ∷ [] in
-    h.answer ∙ rows_append (graph_rows ed ws) rest ∙ rw (ok, lengths, area) (absorbed_last (theory_of ws) (completed_of r).place)
+    let rest = refuse_if 10 (bad_lengths ws (length never) (length atom_never) (length output)) ∷ refuse_if 11 (bad_work ed ws (length work)) ∷ absorbed_row (theory_of ws) (call_of r).place ∷ [] in
+    h.answer ∙ rows_append (graph_rows ed ws) rest ∙ rw (ok, lengths, area) (absorbed_last (theory_of ws) (call_of r).place)

@@ -16,12 +16,14 @@ use Rattle.theory.proofs.SetLaws.{clash, is_eq}
 use Rattle.theory.proofs.ConeLaws.{filled_mem}
 use Rattle.mask.specs.Mask.{pack}
 use Rattle.refusals.specs.Answer.{Answer, accept, refuse, refuse_if, or_next, first_refusal}
-use Rattle.refusals.specs.Refusals.{graph_rows, graph_answer, answer_of}
-use Rattle.refusals.specs.declared.Checked.{Checked}
-use Rattle.refusals.specs.declared.Checked.TheVariants.{Accepted, Edition as EditionRefused, Counts, Size, Node, Producer, Link, Back, Leaf, Head, Entries}
+use Rattle.refusals.specs.Refusals.{graph_rows, graph_answer, refused_as}
+use Rattle.refusals.specs.declared.Refusal.{Refusal}
+use Rattle.refusals.specs.declared.Refusal.TheVariants.{Edition as EditionRefused, Counts, Size, Node, Producer, Link, Back, Leaf, Head, Entries}
 use Rattle.refusals.proofs.RowLaws.{rows_append}
 use Rattle.preparation.specs.Flags.{Refused}
-use Rattle.founded.specs.Answers.{absorbed_row, call_answer, output_left, work_left}
+use Rattle.founded.specs.declared.CallError.TheVariants as CallError
+use Rattle.founded.specs.declared.CallError.{CallError}
+use Rattle.founded.specs.Answers.{turned_as, absorbed_row, call_answer, output_left, work_left}
 use Rattle.founded.proofs.OutputLaws.{flags_pack}
 
 -- what the two contracts have in common: lengths and area are the tests of 10 and 11, and s is the set that success writes
@@ -32,18 +34,24 @@ pub record Answered (ed : Edition) (ws : List ℕ) (lengths area : Bool) (s : Se
   pub work_after : work' ≡ work_left a.number work
 
 -- the graph's refusals are neither 0 nor 12
-pub graph_number : (c : Checked) → c ≢ Accepted → (eqb (answer_of c).number 0 ≡ false) × (eqb (answer_of c).number 12 ≡ false)
-graph_number Accepted n = absurd (n refl)
-graph_number EditionRefused n = (refl, refl)
-graph_number Counts n = (refl, refl)
-graph_number Size n = (refl, refl)
-graph_number (Node k) n = (refl, refl)
-graph_number (Producer k) n = (refl, refl)
-graph_number (Link k) n = (refl, refl)
-graph_number (Back k) n = (refl, refl)
-graph_number (Leaf k) n = (refl, refl)
-graph_number (Head k) n = (refl, refl)
-graph_number Entries n = (refl, refl)
+pub graph_number : (e : Refusal) → (eqb (refused_as e).number 0 ≡ false) × (eqb (refused_as e).number 12 ≡ false)
+graph_number EditionRefused = (refl, refl)
+graph_number Counts = (refl, refl)
+graph_number Size = (refl, refl)
+graph_number (Node k) = (refl, refl)
+graph_number (Producer k) = (refl, refl)
+graph_number (Link k) = (refl, refl)
+graph_number (Back k) = (refl, refl)
+graph_number (Leaf k) = (refl, refl)
+graph_number (Head k) = (refl, refl)
+graph_number Entries = (refl, refl)
+
+-- no refusal is success
+pub call_some : (e : CallError) → eqb (turned_as e).number 0 ≡ false
+call_some (CallError.Refused e) = (graph_number e).0
+call_some CallError.Lengths = refl
+call_some CallError.Work = refl
+call_some (CallError.Absorbed n) = refl
 
 module _ (ed : Edition) (ws : List ℕ) (s : Set) (output work : List ℕ) where
   -- the rows after the graph's
@@ -64,10 +72,10 @@ module _ (ed : Edition) (ws : List ℕ) (s : Set) (output work : List ℕ) where
     work_after = rw (n.0, n.1);
   }
 
-  pub graph_refused : {lengths area : Bool} {c : Checked} → answer_of c ≡ graph_answer ed ws → c ≢ Accepted → Answered ed ws lengths area s output work output work (answer_of c)
-  graph_refused {lengths} {area} {c} e n =
-      let k = graph_number c n in
-      kept (answer_of c) (sym (rows lengths area (answer_of c).place ∙ rw (← e, k.0))) k
+  pub graph_refused : {lengths area : Bool} (e : Refusal) → refused_as e ≡ graph_answer ed ws → Answered ed ws lengths area s output work output work (refused_as e)
+  graph_refused {lengths} {area} e q =
+      let k = graph_number e in
+      kept (refused_as e) (sym (rows lengths area (refused_as e).place ∙ rw (← q, k.0))) k
 
   module _ (ok : graph_answer ed ws ≡ accept) where
     later : (lengths area : Bool) (p : ℕ) → call_answer ed ws lengths area p ≡ late lengths area p

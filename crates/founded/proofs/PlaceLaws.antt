@@ -15,9 +15,9 @@ use Rattle.refusals.specs.Refusals.{graph_rows, graph_answer}
 use Rattle.refusals.proofs.RowLaws.{rows_append}
 use Rattle.refusals.proofs.PlaceLaws.{graph_place}
 use Rattle.preparation.proofs.StageLaws.{absorbed_low}
-use Rattle.founded.specs.declared.Prepared.{Prepared}
-use Rattle.founded.specs.declared.Completed.{Completed}
-use Rattle.founded.specs.Answers.{prepared_of, completed_of, bad_mask, bad_lengths, bad_work, absorbed_row, call_answer, prepare_answer, complete_answer, Prepares, Completes}
+use Rattle.founded.specs.declared.CallError.{CallError}
+use Rattle.std.specs.Prelude.{Result}
+use Rattle.founded.specs.Answers.{call_of, bad_mask, bad_lengths, bad_work, absorbed_row, call_answer, prepare_answer, complete_answer, Prepares, Completes}
 
 module _ {lim : ℕ} (some : 0 < lim) (ed : Edition) (ws : List ℕ) (nodes : get_or ws 2 0 < lim) (producers : get_or ws 3 0 < lim) (links : get_or ws 4 0 < lim) where
   late : (lengths area absorbed : Bool) (p : ℕ) → Answer
@@ -44,10 +44,10 @@ module _ {lim : ℕ} (some : 0 < lim) (ed : Edition) (ws : List ℕ) (nodes : ge
           by false k = x
 
   module _ {output work output' work' : List ℕ} where
-    pub prepared_place : {r : Prepared} → Prepares ed ws output work output' work' r → (prepared_of r).place < lim
+    pub prepared_place : {r : Result (Unit {0}) CallError} → Prepares ed ws output work output' work' r → (call_of r).place < lim
     unfolding prepare_answer theory_of
-    prepared_place {r} h = rw h.answer (call_place (bad_mask (get_or ws 1 0) (length output)) (bad_work ed ws (length work)) (prepared_of r).place (λ e. lt_trans (absorbed_low (theory_of ws) (prepared_of r).place (h.absorbed (ap (λ (a : Answer). a.number) h.answer ∙ e))) nodes))
+    prepared_place {r} h = rw h.answer (call_place (bad_mask (get_or ws 1 0) (length output)) (bad_work ed ws (length work)) (call_of r).place (λ e. lt_trans (absorbed_low (theory_of ws) (call_of r).place (h.absorbed (ap (λ (a : Answer). a.number) h.answer ∙ e))) nodes))
 
-    pub completed_place : {never atom_never : List ℕ} {r : Completed} → Completes ed ws never atom_never output work output' work' r → (completed_of r).place < lim
+    pub completed_place : {never atom_never : List ℕ} {r : Result (Unit {0}) CallError} → Completes ed ws never atom_never output work output' work' r → (call_of r).place < lim
     unfolding complete_answer theory_of
-    completed_place {never} {atom_never} {r} h = rw h.answer (call_place (bad_lengths ws (length never) (length atom_never) (length output)) (bad_work ed ws (length work)) (completed_of r).place (λ e. lt_trans (absorbed_low (theory_of ws) (completed_of r).place (h.absorbed (ap (λ (a : Answer). a.number) h.answer ∙ e))) nodes))
+    completed_place {never} {atom_never} {r} h = rw h.answer (call_place (bad_lengths ws (length never) (length atom_never) (length output)) (bad_work ed ws (length work)) (call_of r).place (λ e. lt_trans (absorbed_low (theory_of ws) (call_of r).place (h.absorbed (ap (λ (a : Answer). a.number) h.answer ∙ e))) nodes))

@@ -1,6 +1,6 @@
 -- What preparation and pass answer and leave (document 01, "Where a call is turned away"): number and place of each case, the rows of each call,
 -- and one record for each call.
-use Rattle.std.specs.Prelude.{◌≡◌, ◌↔◌, Bool, not, ◌||◌, cond, List, [], ◌∷◌, ◌++◌, ℕ, ◌<◌, eqb, length, get_or, replicate}
+use Rattle.std.specs.Prelude.{◌≡◌, ◌↔◌, Bool, not, ◌||◌, cond, List, [], ◌∷◌, ◌++◌, ℕ, ◌<◌, eqb, length, get_or, replicate, Result, Ok, Err}
 use Rattle.theory.specs.Sets.{Set, Is, Mem, filled}
 use Rattle.theory.specs.Theory.{Theory}
 use Rattle.theory.specs.Words.{theory_of, bit_at}
@@ -10,26 +10,21 @@ use Rattle.theory.specs.Unfounded.{OnClosedWalk, Unfounded}
 use Rattle.theory.specs.Cases.{absorbed_in}
 use Rattle.mask.specs.Mask.{words_of, pack}
 use Rattle.refusals.specs.Answer.{Answer, accept, refuse, refuse_if, first_refusal}
-use Rattle.refusals.specs.Refusals.{graph_rows, answer_of}
-use Rattle.founded.specs.declared.Prepared.{Prepared}
-use Rattle.founded.specs.declared.Prepared.TheVariants.{Done, Refused, Output, Work, Absorbed}
-use Rattle.founded.specs.declared.Completed.{Completed}
-use Rattle.founded.specs.declared.Completed.TheVariants.{Done as AllDone, Refused as GraphRefused, Lengths, Work as WorkRefused, Absorbed as NodeAbsorbed}
+use Rattle.refusals.specs.Refusals.{graph_rows, refused_as}
+use Rattle.founded.specs.declared.CallError.{CallError}
+use Rattle.founded.specs.declared.CallError.TheVariants.{Refused, Lengths, Work, Absorbed}
 
--- number and place of each case
-abbrev pub prepared_of : Prepared → Answer
-prepared_of Done = accept
-prepared_of (Refused c) = answer_of c
-prepared_of Output = refuse 10 0
-prepared_of Work = refuse 11 0
-prepared_of (Absorbed n) = refuse 12 n
+-- number and place of each case of `CallError`
+abbrev pub turned_as : CallError → Answer
+turned_as (Refused e) = refused_as e
+turned_as Lengths = refuse 10 0
+turned_as Work = refuse 11 0
+turned_as (Absorbed n) = refuse 12 n
 
-abbrev pub completed_of : Completed → Answer
-completed_of AllDone = accept
-completed_of (GraphRefused c) = answer_of c
-completed_of Lengths = refuse 10 0
-completed_of WorkRefused = refuse 11 0
-completed_of (NodeAbsorbed n) = refuse 12 n
+-- what a call answers
+abbrev pub call_of : Result (Unit {0}) CallError → Answer
+call_of (Ok u) = accept
+call_of (Err e) = turned_as e
 
 -- 10: another length than that of a mask over so many numbers; the output is such a mask too
 abbrev pub bad_mask : (count words : ℕ) → Bool
@@ -65,22 +60,22 @@ abbrev pub work_left : (number : ℕ) → List ℕ → List ℕ
 work_left number work = cond (eqb number 0 || eqb number 12) (replicate (length work) 0) work
 
 -- preparation: the output lists the cyclic atoms
-pub record Prepares (ed : Edition) (graph output work output' work' : List ℕ) (r : Prepared) : Type 0 where
-  pub answer : prepared_of r ≡ prepare_answer ed graph (length output) (length work) (prepared_of r).place
-  pub done : (prepared_of r).number ≡ 0 → r ≡ Done
-  pub absorbed : (prepared_of r).number ≡ 12 → Mem (prepared_of r).place (absorbed_in (theory_of graph))
-  pub output_after : output' ≡ output_left (prepared_of r).number (get_or graph 1 0) (cyclic (theory_of graph)) output
-  pub work_after : work' ≡ work_left (prepared_of r).number work
+pub record Prepares (ed : Edition) (graph output work output' work' : List ℕ) (r : Result (Unit {0}) CallError) : Type 0 where
+  pub answer : call_of r ≡ prepare_answer ed graph (length output) (length work) (call_of r).place
+  pub done : (call_of r).number ≡ 0 → r ≡ Ok (tt {0})
+  pub absorbed : (call_of r).number ≡ 12 → Mem (call_of r).place (absorbed_in (theory_of graph))
+  pub output_after : output' ≡ output_left (call_of r).number (get_or graph 1 0) (cyclic (theory_of graph)) output
+  pub work_after : work' ≡ work_left (call_of r).number work
   -- on success a bit of the output is set exactly if its atom is on a closed walk
-  pub closed_walk : (prepared_of r).number ≡ 0 → (a : ℕ) → Is (bit_at output' a) ↔ ((a < (theory_of graph).atoms) × OnClosedWalk (theory_of graph) a)
+  pub closed_walk : (call_of r).number ≡ 0 → (a : ℕ) → Is (bit_at output' a) ↔ ((a < (theory_of graph).atoms) × OnClosedWalk (theory_of graph) a)
 
 -- the pass: the output lists the missing atoms
-pub record Completes (ed : Edition) (graph never atom_never output work output' work' : List ℕ) (r : Completed) : Type 0 where
-  pub answer : completed_of r ≡ complete_answer ed graph (length never) (length atom_never) (length output) (length work) (completed_of r).place
-  pub done : (completed_of r).number ≡ 0 → r ≡ AllDone
-  pub absorbed : (completed_of r).number ≡ 12 → Mem (completed_of r).place (absorbed_in (theory_of graph))
-  pub output_after : output' ≡ output_left (completed_of r).number (get_or graph 1 0) (missing (theory_of graph) (bit_at never) (bit_at atom_never)) output
-  pub work_after : work' ≡ work_left (completed_of r).number work
+pub record Completes (ed : Edition) (graph never atom_never output work output' work' : List ℕ) (r : Result (Unit {0}) CallError) : Type 0 where
+  pub answer : call_of r ≡ complete_answer ed graph (length never) (length atom_never) (length output) (length work) (call_of r).place
+  pub done : (call_of r).number ≡ 0 → r ≡ Ok (tt {0})
+  pub absorbed : (call_of r).number ≡ 12 → Mem (call_of r).place (absorbed_in (theory_of graph))
+  pub output_after : output' ≡ output_left (call_of r).number (get_or graph 1 0) (missing (theory_of graph) (bit_at never) (bit_at atom_never)) output
+  pub work_after : work' ≡ work_left (call_of r).number work
   -- demand 3: on success a bit of the output is set exactly if its atom lies in some unfounded set
-  pub demand_3 : (completed_of r).number ≡ 0 → (a : ℕ)
+  pub demand_3 : (call_of r).number ≡ 0 → (a : ℕ)
       → Is (bit_at output' a) ↔ ((u : Set) × Unfounded (theory_of graph) (bit_at never) (bit_at atom_never) u × Is (u a))

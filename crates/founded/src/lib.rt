@@ -7,30 +7,28 @@ ghost use Rattle.theory.specs.Accepted.{area_of};
 ghost use Rattle.mask.specs.Mask.{words_of, pack};
 ghost use Rattle.refusals.specs.Answer.{accept};
 ghost use Rattle.refusals.specs.Refusals.{graph_answer};
+ghost use Rattle.founded.specs.declared.CallError.TheVariants.{Refused};
 ghost use Rattle.founded.specs.Answers.{bad_mask, bad_lengths, Prepares, Completes};
 
 use area::length::Area;
-use preparation::Marks;
-use refusals::Checked;
+use refusals::Refusal;
 use words::Word;
 
-// What each call answers. specs/Answers has the number and place of each.
-#[derive(Clone, Copy)]
-pub enum Prepared {
-    Done,
-    Refused(Checked),
-    Output,
+// Why a call is turned away. specs/Answers has the number and place of each.
+#[derive(Clone, Copy, Debug, PartialEq, Eq)]
+pub enum CallError {
+    Refused(Refusal),
+    Lengths,
     Work,
     Absorbed(usize),
 }
 
-#[derive(Clone, Copy)]
-pub enum Completed {
-    Done,
-    Refused(Checked),
-    Lengths,
-    Work,
-    Absorbed(usize),
+impl From<Refusal> for CallError {
+    ghost from_gives = { λ refusal e. e ≡ Refused refusal };
+
+    fn from(refusal: Refusal) -> CallError {
+        CallError::Refused(refusal)
+    }
 }
 
 // Whether a mask, or an output, has another length than one over so many numbers.
@@ -52,38 +50,38 @@ fn hand_out<W: Word>(words: &mut [W], from: usize, atoms: usize, output: &mut [u
 }
 
 // Preparation after refusals 1 to 11.
-fn prepare_accepted<W: Area>(graph: &[W], output: &mut [u64], work: &mut [W]) -> Prepared
+fn prepare_accepted<W: Area>(
+    graph: &[W],
+    output: &mut [u64],
+    work: &mut [W],
+) -> Result<(), CallError>
     requires { (graph_answer W.edition (W.numbers graph.now) ≡ accept) × (bad_mask (get_or (W.numbers graph.now) 1 0) (length output.old) ≡ false) × (length (W.numbers work.old) ≡ area_of W.edition (theory_of (W.numbers graph.now))) }
     ensures { Prepares W.edition (W.numbers graph.now) output.old (W.numbers work.old) output.new (W.numbers work.new) result }
 {
     let words = work.len();
     let b = area::bases_of(graph, words);
-    let marks = preparation::cyclic_atoms(graph, work, b);
-    match marks {
-        Marks::Done => {
+    match preparation::cyclic_atoms(graph, work, b) {
+        Ok(()) => {
             hand_out(work, b.cyclic_atoms, b.atoms, output);
-            Prepared::Done
+            Ok(())
         }
-        Marks::Absorbed(n) => {
+        Err(absorbed) => {
             area::wipe(work);
-            Prepared::Absorbed(n)
+            Err(CallError::Absorbed(absorbed.node))
         }
     }
 }
 
 // Preparation: the cyclic atoms.
-pub fn prepare<W: Area>(graph: &[W], output: &mut [u64], work: &mut [W]) -> Prepared
+pub fn prepare<W: Area>(graph: &[W], output: &mut [u64], work: &mut [W]) -> Result<(), CallError>
     ensures { Prepares W.edition (W.numbers graph.now) output.old (W.numbers work.old) output.new (W.numbers work.new) result }
 {
-    let checked = checking::check(graph);
-    let Checked::Accepted = checked else {
-        return Prepared::Refused(checked);
-    };
+    checking::check(graph)?;
     if bad_mask(graph::atoms(graph), output.len()) {
-        return Prepared::Output;
+        return Err(CallError::Lengths);
     }
     if work.len() != W::area_words(graph) {
-        return Prepared::Work;
+        return Err(CallError::Work);
     }
     prepare_accepted(graph, output, work)
 }
@@ -110,21 +108,20 @@ fn complete_accepted<W: Area>(
     atom_never: &[u64],
     output: &mut [u64],
     work: &mut [W],
-) -> Completed
+) -> Result<(), CallError>
     requires { (graph_answer W.edition (W.numbers graph.now) ≡ accept) × (bad_lengths (W.numbers graph.now) (length never.now) (length atom_never.now) (length output.old) ≡ false) × (length (W.numbers work.old) ≡ area_of W.edition (theory_of (W.numbers graph.now))) }
     ensures { Completes W.edition (W.numbers graph.now) never.now atom_never.now output.old (W.numbers work.old) output.new (W.numbers work.new) result }
 {
     let words = work.len();
     let b = area::bases_of(graph, words);
-    let marks = preparation::missing(graph, never, atom_never, work, b);
-    match marks {
-        Marks::Done => {
+    match preparation::missing(graph, never, atom_never, work, b) {
+        Ok(()) => {
             hand_out(work, b.dependencies, b.atoms, output);
-            Completed::Done
+            Ok(())
         }
-        Marks::Absorbed(n) => {
+        Err(absorbed) => {
             area::wipe(work);
-            Completed::Absorbed(n)
+            Err(CallError::Absorbed(absorbed.node))
         }
     }
 }
@@ -136,18 +133,15 @@ pub fn complete<W: Area>(
     atom_never: &[u64],
     output: &mut [u64],
     work: &mut [W],
-) -> Completed
+) -> Result<(), CallError>
     ensures { Completes W.edition (W.numbers graph.now) never.now atom_never.now output.old (W.numbers work.old) output.new (W.numbers work.new) result }
 {
-    let checked = checking::check(graph);
-    let Checked::Accepted = checked else {
-        return Completed::Refused(checked);
-    };
+    checking::check(graph)?;
     if bad_lengths(graph, never.len(), atom_never.len(), output.len()) {
-        return Completed::Lengths;
+        return Err(CallError::Lengths);
     }
     if work.len() != W::area_words(graph) {
-        return Completed::Work;
+        return Err(CallError::Work);
     }
     complete_accepted(graph, never, atom_never, output, work)
 }

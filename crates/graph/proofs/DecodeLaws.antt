@@ -1,9 +1,10 @@
 -- What an accessor reads is a field of the decoded theory, and an accepted graph meets what the readers of a link ask.
-use mathlib.Core.Path.{◌≡◌, refl, ap, ◌∙◌}
+use mathlib.Core.Path.{◌≡◌, refl, sym, ap, ◌∙◌}
 use mathlib.Core.List.{List}
 use Prim.Native.Nat.{ℕ, ◌+◌, ◌-◌, ◌*◌, ◌≤◌, ◌<◌}
 use native.Mathlib.Omega.{arith}
 use lib.ListN.{length, get_or}
+use Rattle.theory.specs.Theory.{Kind}
 use Rattle.theory.specs.Words.{kind_of, node_at, producer_at, link_at, value_of, next_of, chain, theory_of}
 use Rattle.theory.specs.Links.{MeetsOnce}
 use Rattle.theory.specs.Accepted.{Edition, Accepted, size_of}
@@ -42,6 +43,10 @@ module _ (ws : List ℕ) where
   pub the_heads : (p : ℕ) → (theory_of ws).heads p ≡ chain ws (get_or ws (producer_at ws p + 1) 0)
   unfolding theory_of
   the_heads p = refl
+
+-- what is said of the kind that is read is said of the node's kind
+pub kind_says : {X : Type 0} (says : Kind → X) (ws : List ℕ) (n : ℕ) {k : ℕ} {r : X} → k ≡ get_or ws (node_at n) 0 → r ≡ says (kind_of k) → says ((theory_of ws).kind n) ≡ r
+kind_says says ws n e q = ap says (the_kind ws n) ∙ ap (λ (k : ℕ). says (kind_of k)) (sym e) ∙ sym q
 
 -- where the links begin
 pub from_is : (ws : List ℕ) {n p : ℕ} → n ≡ get_or ws 2 0 → p ≡ get_or ws 3 0 → LinksFrom ws (5 + 3 * n + 2 * p)

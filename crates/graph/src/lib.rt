@@ -2,7 +2,7 @@
 #![tactic(auto)]
 
 ghost use Rattle.std.specs.Prelude.{◌≡◌, false, ◌+◌, ◌<◌, ◌≤◌, length, get_or};
-ghost use Rattle.theory.specs.Theory.{joins};
+ghost use Rattle.theory.specs.Theory.{joins, absorbed};
 ghost use Rattle.theory.specs.Words.{kind_of, node_at, producer_at, chain};
 ghost use Rattle.theory.specs.Links.{MeetsOnce};
 ghost use Rattle.theory.specs.Accepted.{Accepted, size_of};
@@ -63,6 +63,16 @@ pub fn starts_true(kind: usize) -> bool
     ensures { result ≡ starts_true (kind_of kind) }
 {
     says(kind, 4)
+}
+
+// The kind that refusal 12 is for. The table does not tell it from kind 0.
+const ABSORBED: usize = 7;
+
+pub fn absorbed(kind: usize) -> bool
+    requires { kind ≤ 7 }
+    ensures { result ≡ absorbed (kind_of kind) }
+{
+    kind == ABSORBED
 }
 
 // The header's counts.

@@ -1,4 +1,4 @@
--- The start over the work area: the beginning (`starts`), a head of a fact (`head_passes`, `head_pushes`), a node by its start
+-- The start over the work area: the beginning (`starts`), a head of a fact (`head_passes`, `head_pushes`), where the vertices fit a word too (`fitting_follows`, `drives_fitting` and back), a node by its start
 -- state (`inactive_rests`, `true_pushes`, `awaiting_pushes`, `awaiting_waits`), and the end (`begun`).
 use mathlib.Core.Path.{◌≡◌, refl, sym, ap, ◌∙◌, subst}
 use mathlib.Core.List.Memᴰ
@@ -21,13 +21,14 @@ use Rattle.theory.proofs.EdgeLaws.{cone_bound}
 use Rattle.theory.proofs.PrefixLaws.{upto_length}
 use Rattle.theory.proofs.PassStartLaws.{pass_begin}
 use Rattle.theory.proofs.StartingLaws.{head_passed, head_room, head_found, node_low, node_room, node_idle, node_found, starting_end}
+use Rattle.words.specs.Words.{Holds}
 use Rattle.area.specs.declared.Bases.{Bases}
 use Rattle.area.specs.Layout.{Laid, Based}
 use Rattle.initialization.specs.declared.Initial.{Initial}
 use Rattle.initialization.specs.declared.Initial.TheVariants.{Inactive, Awaiting, True}
 use Rattle.area.specs.Views.{count_at, queued, as_vertices}
 use Rattle.initialization.specs.Regions.{cone_nodes, fact_rows, Prepared, Outside, Begun}
-use Rattle.initialization.specs.Start.{initial_at, Filled, Context, At, pass_context, AtNodes}
+use Rattle.initialization.specs.Start.{initial_at, Filled, Context, At, Fitting, pass_context, AtNodes}
 use Rattle.area.proofs.ViewLaws.{count_same, count_other, count_queue, push_count, push_queue}
 use Rattle.area.proofs.PartLaws.{behind_more}
 use Rattle.initialization.proofs.RegionLaws.{outside_none, outside_set, outside_then, cone_same, prepared_kept}
@@ -111,6 +112,25 @@ module _ {b : Bases} {w : List ℕ} {t a : ℕ} where
           let m = laid in
           let j = fits in
           outside_then (outside_set b.dependencies b.body_nodes w (b.dependencies + a) 0 (omega arith) (omega arith)) (outside_set b.dependencies b.body_nodes one (b.queue + t) a (omega arith) (omega arith))
+
+-- ---- where the vertices fit a word
+
+pub fits_word : {ed : Edition} {lim : ℕ} {ws : List ℕ} {b : Bases} {words : ℕ} → Holds ed lim → Accepted ed ws → Based ws words b → b.atoms + b.nodes ≤ lim
+fits_word holds acc based = omega arith
+
+module _ {lim : ℕ} {b : Bases} {w : List ℕ} {t : ℕ} {l : List ℕ} where
+  pub fitting_follows : b.atoms + b.nodes ≤ lim → Follows (At b) w t l → Follows (Fitting lim b) w t l
+  fitting_follows fits f = record { ctx = f.ctx; more = f.more; held = (fits, f.held) }
+
+  pub follows_fitting : Follows (Fitting lim b) w t l → Follows (At b) w t l
+  follows_fitting f = record { ctx = f.ctx; more = f.more; held = f.held.1 }
+
+  module _ {n : ℕ} {w' : List ℕ} {t' : ℕ} {l' : List ℕ} where
+    pub fitting_drives : Drives (At b) n w t l w' t' l' → Drives (Fitting lim b) n w t l w' t' l'
+    fitting_drives d = record { frame = d.frame; size = d.size; keeps = λ c more h. (h.0, d.keeps c more h.1) }
+
+    pub drives_fitting : b.atoms + b.nodes ≤ lim → Drives (Fitting lim b) n w t l w' t' l' → Drives (At b) n w t l w' t' l'
+    drives_fitting fits d = record { frame = d.frame; size = d.size; keeps = λ c more h. (d.keeps c more (fits, h)).1 }
 
 -- ---- a node
 

@@ -46,6 +46,10 @@ pub record At (b : Bases) (c : Context) (w : List ℕ) (t : ℕ) (heads : List �
   pub kept : drop b.body_nodes w ≡ c.behind
   pub starting : Starting c.bound c.mode c.pred heads c.nodes (queued b w t) (count_at b w)
 
+-- the same where the vertices fit a word, whose values are below lim
+abbrev pub Fitting : (lim : ℕ) (b : Bases) → Context → List ℕ → ℕ → List ℕ → Type 0
+Fitting lim b c w t heads = (b.atoms + b.nodes ≤ lim) × At b c w t heads
+
 -- the context of a graph's pass
 abbrev pub pass_context : (ws : List ℕ) (never atom_never : Set) (nodes behind : List ℕ) → Context
 pass_context ws never atom_never nodes behind = record {

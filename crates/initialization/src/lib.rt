@@ -15,9 +15,10 @@ ghost use Rattle.theory.specs.Starting.{first_count};
 ghost use Rattle.area.specs.Layout.{Laid, Based};
 ghost use Rattle.area.specs.Views.{as_vertices};
 ghost use Rattle.initialization.specs.Regions.{cone_nodes, fact_rows, Flagged, ConeListed, FactsListed, Prepared, Begun};
-ghost use Rattle.initialization.specs.Start.{initial_of, initial_at, Filled, At, AtNodes};
+ghost use Rattle.initialization.specs.Start.{initial_of, initial_at, Filled, Context, At, Fitting, AtNodes};
 
 use area::Bases;
+use chains::Step;
 use words::Word;
 
 // A node's start state.
@@ -49,11 +50,9 @@ fn first_counts<W: Word>(atom_never: &[u64], work: &mut [W], b: Bases)
     requires { Laid b × (b.end ≤ length (W.numbers work.old)) }
     ensures { Filled b (bit_at atom_never.now) (W.numbers work.old) (W.numbers work.new) (b.atoms + b.nodes) }
 {
-    let mut v: usize = 0;
-    while v < b.atoms + b.nodes {
+    for v in 0..b.atoms + b.nodes {
         let count = first_count(atom_never, work, b, v);
         words::put(work, b.dependencies + v, count);
-        v += 1;
     }
 }
 
@@ -67,32 +66,26 @@ fn push<W: Word>(work: &mut [W], b: Bases, v: usize, tail: usize) -> usize
 }
 
 // A head of a fact: found if it waits.
-fn activate_atom<W: Word>(work: &mut [W], b: Bases, a: usize, tail: usize) -> usize
-    requires { (b.atoms + b.nodes ≤ W.limit) × Follows (At b) (W.numbers work.old) tail (a ∷ []) }
-    ensures { Drives (At b) b.dependencies (W.numbers work.old) tail (a ∷ []) (W.numbers work.new) result [] }
-{
-    if words::at(work, b.dependencies + a) == 0 {
-        return tail;
-    }
-    words::put(work, b.dependencies + a, 0);
-    push(work, b, a, tail)
+#[derive(Clone, Copy)]
+struct Activate {
+    bases: Bases,
 }
 
-// The heads of a fact.
-fn activate_heads<W: Word>(graph: &[W], work: &mut [W], b: Bases, p: usize, tail: usize) -> usize
-    requires accepted { Accepted W.edition (W.numbers graph.now) × Based (W.numbers graph.now) (length (W.numbers work.old)) b × (p < (theory_of (W.numbers graph.now)).producers) }
-    requires follows { Follows (At b) (W.numbers work.old) tail ((theory_of (W.numbers graph.now)).heads p) }
-    ensures { Drives (At b) b.dependencies (W.numbers work.old) tail ((theory_of (W.numbers graph.now)).heads p) (W.numbers work.new) result [] }
-{
-    let from = graph::links_from(graph);
-    let mut t = tail;
-    let mut l = graph::first_head(graph, p);
-    while l > 0 {
-        let v = graph::value(graph, from, l);
-        l = graph::next(graph, from, l);
-        t = activate_atom(work, b, v, t);
+impl<W: Word> Step<W> for Activate {
+    ghost Context = { Context };
+
+    ghost held = { λ it. Fitting W.limit it.bases };
+
+    ghost kept = { λ it. it.bases.dependencies };
+
+    fn step(self, work: &mut [W], a: usize, tail: usize) -> usize {
+        let b = self.bases;
+        if words::at(work, b.dependencies + a) == 0 {
+            return tail;
+        }
+        words::put(work, b.dependencies + a, 0);
+        push(work, b, a, tail)
     }
-    t
 }
 
 // The facts that have a cyclic head.
@@ -102,10 +95,14 @@ fn activate_facts<W: Word>(graph: &[W], work: &mut [W], b: Bases, facts: usize) 
     ensures { Drives (At b) b.dependencies (W.numbers work.old) 0 (flat_map (theory_of (W.numbers graph.now)).heads (fact_rows b (W.numbers work.old) facts)) (W.numbers work.new) result [] }
 {
     let mut t: usize = 0;
-    let mut i = facts;
-    while i > 0 {
-        i -= 1;
-        t = activate_heads(graph, work, b, words::at(work, b.fact_rows + i), t);
+    for i in (0..facts).rev() {
+        t = chains::heads(
+            graph,
+            work,
+            Activate { bases: b },
+            words::at(work, b.fact_rows + i),
+            t,
+        );
     }
     t
 }
@@ -208,9 +205,7 @@ fn start_nodes<W: Word>(
     ensures { Drives (AtNodes (W.numbers graph.now) (bit_at never.now) (bit_at atom_never.now) b) b.dependencies (W.numbers work.old) tail (as_vertices b (cone_nodes b (W.numbers work.old) nodes)) (W.numbers work.new) result [] }
 {
     let mut t = tail;
-    let mut i = nodes;
-    while i > 0 {
-        i -= 1;
+    for i in (0..nodes).rev() {
         t = start_node(
             graph,
             never,

@@ -11,7 +11,7 @@ use words::{Word, at};
 pub fn words(n: usize) -> usize
     ensures { result ≡ words_of n }
 {
-    n / 64 + (n % 64 + 63) / 64
+    n.div_ceil(64)
 }
 
 // Bit i; past the end of the mask it is not set.

@@ -1,69 +1,65 @@
-// The number and the place of each answer.
+// The number and the place of each refusal.
 #![tactic(auto)]
 
 ghost use Rattle.std.specs.Prelude.{◌≡◌, ◌<◌};
-ghost use Rattle.refusals.specs.Refusals.{answer_of};
-ghost use Rattle.founded.specs.Answers.{completed_of};
+ghost use Rattle.refusals.specs.Refusals.{refused_as};
+ghost use Rattle.founded.specs.Answers.{turned_as};
 
-use founded::Completed;
-use refusals::Checked;
+use founded::CallError;
+use refusals::Refusal;
 
-pub fn checked_number(c: Checked) -> usize
-    ensures { (result ≡ (answer_of c).number) × (result < 65536) }
+pub fn refusal_number(e: Refusal) -> usize
+    ensures { (result ≡ (refused_as e).number) × (result < 65536) }
 {
-    match c {
-        Checked::Accepted => 0,
-        Checked::Edition => 1,
-        Checked::Counts => 2,
-        Checked::Size => 3,
-        Checked::Node(_) => 4,
-        Checked::Producer(_) => 5,
-        Checked::Link(_) => 6,
-        Checked::Back(_) => 14,
-        Checked::Leaf(_) => 7,
-        Checked::Head(_) => 8,
-        Checked::Entries => 9,
+    match e {
+        Refusal::Edition => 1,
+        Refusal::Counts => 2,
+        Refusal::Size => 3,
+        Refusal::Node(_) => 4,
+        Refusal::Producer(_) => 5,
+        Refusal::Link(_) => 6,
+        Refusal::Back(_) => 14,
+        Refusal::Leaf(_) => 7,
+        Refusal::Head(_) => 8,
+        Refusal::Entries => 9,
     }
 }
 
-pub fn checked_place(c: Checked) -> usize
-    ensures { result ≡ (answer_of c).place }
+pub fn refusal_place(e: Refusal) -> usize
+    ensures { result ≡ (refused_as e).place }
 {
-    match c {
-        Checked::Node(n) => n as usize,
-        Checked::Producer(p) => p as usize,
-        Checked::Link(l) => l as usize,
-        Checked::Back(i) => i as usize,
-        Checked::Leaf(n) => n as usize,
-        Checked::Head(p) => p as usize,
-        Checked::Accepted => 0,
-        Checked::Edition => 0,
-        Checked::Counts => 0,
-        Checked::Size => 0,
-        Checked::Entries => 0,
+    match e {
+        Refusal::Node(n) => n as usize,
+        Refusal::Producer(p) => p as usize,
+        Refusal::Link(l) => l as usize,
+        Refusal::Back(i) => i as usize,
+        Refusal::Leaf(n) => n as usize,
+        Refusal::Head(p) => p as usize,
+        Refusal::Edition => 0,
+        Refusal::Counts => 0,
+        Refusal::Size => 0,
+        Refusal::Entries => 0,
     }
 }
 
-pub fn completed_number(c: Completed) -> usize
-    ensures { (result ≡ (completed_of c).number) × (result < 65536) }
+pub fn call_number(e: CallError) -> usize
+    ensures { (result ≡ (turned_as e).number) × (result < 65536) }
 {
-    match c {
-        Completed::Done => 0,
-        Completed::Refused(checked) => checked_number(checked),
-        Completed::Lengths => 10,
-        Completed::Work => 11,
-        Completed::Absorbed(_) => 12,
+    match e {
+        CallError::Refused(refusal) => refusal_number(refusal),
+        CallError::Lengths => 10,
+        CallError::Work => 11,
+        CallError::Absorbed(_) => 12,
     }
 }
 
-pub fn completed_place(c: Completed) -> usize
-    ensures { result ≡ (completed_of c).place }
+pub fn call_place(e: CallError) -> usize
+    ensures { result ≡ (turned_as e).place }
 {
-    match c {
-        Completed::Done => 0,
-        Completed::Refused(checked) => checked_place(checked),
-        Completed::Lengths => 0,
-        Completed::Work => 0,
-        Completed::Absorbed(n) => n,
+    match e {
+        CallError::Refused(refusal) => refusal_place(refusal),
+        CallError::Lengths => 0,
+        CallError::Work => 0,
+        CallError::Absorbed(n) => n,
     }
 }

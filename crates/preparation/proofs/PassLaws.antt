@@ -26,10 +26,10 @@ use Rattle.graph.proofs.DecodeLaws.{the_atoms, the_nodes, the_producers}
 use Rattle.area.specs.declared.Bases.{Bases}
 use Rattle.area.specs.Layout.{Based}
 use Rattle.area.specs.Views.{count_at, queued}
-use Rattle.events.specs.Held.{Tables}
+use Rattle.rows.specs.Rows.{Tables}
 use Rattle.events.specs.Run.{Running, Ran}
 use Rattle.events.proofs.RunLaws.{run_end}
-use Rattle.events.proofs.VertexLaws.{tables_same}
+use Rattle.rows.proofs.VertexLaws.{tables_same}
 use Rattle.cones.specs.Cones as cones
 use Rattle.cones.proofs.FactLaws.{fact_mem}
 use Rattle.initialization.specs.Regions as start

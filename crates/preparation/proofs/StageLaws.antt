@@ -15,12 +15,12 @@ use Rattle.area.specs.declared.Bases.{Bases}
 use Rattle.area.specs.Layout.{Based}
 use Rattle.area.proofs.PartLaws.{frame_less}
 use Rattle.adjacency.proofs.TableLaws.{kept}
-use Rattle.events.proofs.VertexLaws.{tables_same}
+use Rattle.rows.proofs.VertexLaws.{tables_same}
 use Rattle.cones.specs.Cones as cones
-use Rattle.cones.specs.declared.Coned as coned
+use Rattle.cones.specs.declared.Absorbed.{Absorbed}
 use Rattle.cones.proofs.FactLaws.{members_mem}
-use Rattle.preparation.specs.declared.Marks.{Marks}
-use Rattle.preparation.specs.declared.Marks.TheVariants.{Done, Absorbed}
+use Rattle.std.specs.Prelude.{Result, Ok, Err}
+use Rattle.std.specs.Result.{IsErrAnd}
 use Rattle.preparation.specs.Flags.{Marked, Listed}
 use Rattle.preparation.specs.Stages.{Rowed, Onward, Marking, Staged, Passing}
 
@@ -37,15 +37,14 @@ is_absorbed Kind.Or y = clash y refl
 is_absorbed Kind.Opaque y = clash y refl
 is_absorbed Kind.Absorbed y = refl
 
-module _ (th : Theory) (b : Bases) (w : List ℕ) {r : coned.Coned} where
-  pub cone_refused : {n : ℕ} → cones.body_coned th b w r → r ≡ coned.TheVariants.Absorbed n → (n < th.nodes) × Mem n (absorbed_in th)
+module _ (th : Theory) (b : Bases) (w : List ℕ) where
+  pub cone_refused : (e : Absorbed) → cones.body_coned th b w (Err e) → Mem e.node (absorbed_in th)
   unfolding cones.body_coned absorbed_in absorbed
-  cone_refused {n} k e = let q = subst (cones.body_coned th b w) e k in (q.0, (members_mem th.nodes _ n).1 (q.0, and_intro q.1 (ap absorbed q.2)))
+  cone_refused e q = (members_mem th.nodes _ e.node).1 (q.0, and_intro q.1 (ap absorbed q.2))
 
-  pub cone_found : {x : ℕ} → cones.body_coned th b w r → r ≡ coned.TheVariants.Done x → cones.Found th (body_cone th) b w x × (absorbed_in th ≡ [])
+  pub cone_found : (x : ℕ) → cones.body_coned th b w (Ok x) → cones.Found th (body_cone th) b w x × (absorbed_in th ≡ [])
   unfolding cones.body_coned absorbed_in
-  cone_found {x} k e =
-      let q = subst (cones.body_coned th b w) e k in
+  cone_found x q =
       (q.0, empty (absorbed_in th) (λ n m. let i = (members_mem th.nodes _ n).0 m in q.1 n (and_left (body_cone th n) _ i.1) (is_absorbed (th.kind n) (and_right (body_cone th n) _ i.1))))
 
 module _ (ws : List ℕ) (b : Bases) (w₀ : List ℕ) where
@@ -57,29 +56,32 @@ module _ (ws : List ℕ) (b : Bases) (w₀ : List ℕ) where
     marks = f.marks;
   }
 
-  pub staged_refused : (w : List ℕ) {n : ℕ} → length w ≡ length w₀ → Mem n (absorbed_in (theory_of ws)) → Staged ws b w₀ w (Absorbed n)
+  -- `?` passes the refusal on as it is
+  pub staged_refused : (w : List ℕ) (e : Absorbed) (r : Result (Unit {0}) Absorbed) → IsErrAnd r (λ x. x ≡ e) → length w ≡ length w₀ → Mem e.node (absorbed_in (theory_of ws)) → Staged ws b w₀ w r
   unfolding Staged
-  staged_refused w s m = record { size = s; place = m }
+  staged_refused w e (Ok u) h s m = absurd h
+  staged_refused w e (Err x) h s m = rw h (record { size = s; place = m })
 
-  pub staged_done : {w₂ : List ℕ} (w : List ℕ) → length w₂ ≡ length w₀ → absorbed_in (theory_of ws) ≡ [] → Marking ws b w₂ w → Staged ws b w₀ w Done
+  pub staged_done : {w₂ : List ℕ} (w : List ℕ) → length w₂ ≡ length w₀ → absorbed_in (theory_of ws) ≡ [] → Marking ws b w₂ w → Staged ws b w₀ w (Ok (tt {0}))
   unfolding Staged
   staged_done w s e m = record { marking = record { size = m.size ∙ s; tables = m.tables; flags = m.flags }; none = e }
 
   module _ (w : List ℕ) where
-    pub marked_staged : (r : Marks) → Staged ws b w₀ w r → Marked ws b w₀ w r
+    pub marked_staged : (r : Result (Unit {0}) Absorbed) → Staged ws b w₀ w r → Marked ws b w₀ w r
     unfolding Staged Marked
-    marked_staged Done s = record { size = s.marking.size; flags = s.marking.flags; none = s.none }
-    marked_staged (Absorbed n) s = s
+    marked_staged (Ok u) s = record { size = s.marking.size; flags = s.marking.flags; none = s.none }
+    marked_staged (Err e) s = s
 
-    pub ready_pass : {r : Marks} → Staged ws b w₀ w r → r ≡ Done → Marking ws b w w × (length w ≡ length w₀) × (absorbed_in (theory_of ws) ≡ [])
+    pub ready_pass : (u : Unit {0}) → Staged ws b w₀ w (Ok u) → Marking ws b w w × (length w ≡ length w₀) × (absorbed_in (theory_of ws) ≡ [])
     unfolding Staged
-    ready_pass s e = let q = subst (Staged ws b w₀ w) e s in (record { size = refl; tables = q.marking.tables; flags = q.marking.flags }, q.marking.size, q.none)
+    ready_pass u q = (record { size = refl; tables = q.marking.tables; flags = q.marking.flags }, q.marking.size, q.none)
 
-    pub listed_refused : (never atom_never : Set) {r : Marks} {n : ℕ} → Staged ws b w₀ w r → r ≡ Absorbed n → Listed ws never atom_never b w₀ w (Absorbed n)
+    pub listed_refused : (never atom_never : Set) (e : Absorbed) (r : Result (Unit {0}) Absorbed) → IsErrAnd r (λ x. x ≡ e) → Staged ws b w₀ w (Err e) → Listed ws never atom_never b w₀ w r
     unfolding Staged Listed
-    listed_refused never atom_never s e = subst (Staged ws b w₀ w) e s
+    listed_refused never atom_never e (Ok u) h s = absurd h
+    listed_refused never atom_never e (Err x) h s = rw h s
 
-  pub listed_done : (never atom_never : Set) {w₂ : List ℕ} (w : List ℕ) → length w₂ ≡ length w₀ → absorbed_in (theory_of ws) ≡ [] → Passing ws never atom_never b w₂ w → Listed ws never atom_never b w₀ w Done
+  pub listed_done : (never atom_never : Set) {w₂ : List ℕ} (w : List ℕ) → length w₂ ≡ length w₀ → absorbed_in (theory_of ws) ≡ [] → Passing ws never atom_never b w₂ w → Listed ws never atom_never b w₀ w (Ok (tt {0}))
   unfolding Listed
   listed_done never atom_never w s e p = record { size = p.size ∙ s; none = e; flags = p.flags }
 

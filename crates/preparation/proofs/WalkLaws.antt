@@ -18,9 +18,9 @@ use Rattle.area.specs.declared.Bases.{Bases}
 use Rattle.area.specs.Layout.{Laid}
 use Rattle.area.proofs.PartLaws.{frame_less, behind_at}
 use Rattle.area.proofs.FillLaws.{Filled}
-use Rattle.events.specs.Held.{Tables}
+use Rattle.rows.specs.Rows.{Tables}
 use Rattle.adjacency.proofs.TableLaws.{kept}
-use Rattle.events.proofs.VertexLaws.{tables_same}
+use Rattle.rows.proofs.VertexLaws.{tables_same}
 use Rattle.area.specs.Views.{mark_of, mark_in, flag_at}
 use Rattle.finishing.specs.Finished as walk
 use Rattle.components.specs.Classes.{Classified}

@@ -1,5 +1,5 @@
 -- What the words hold from stage to stage: the row tables, the body cone, the cyclic atoms, and after the pass the counts.
-use Rattle.std.specs.Prelude.{◌≡◌, cond, List, [], ℕ, ◌+◌, ◌<◌, length}
+use Rattle.std.specs.Prelude.{◌≡◌, cond, List, [], ℕ, ◌+◌, ◌<◌, length, Result, Ok, Err}
 use Rattle.theory.specs.Sets.{Set}
 use Rattle.theory.specs.Words.{theory_of}
 use Rattle.theory.specs.Edges.{body_cone}
@@ -10,9 +10,8 @@ use Rattle.area.specs.Layout.{Based}
 use Rattle.area.specs.Views.{mark_in, count_at, flag_at}
 use Rattle.adjacency.specs.Tables.{rows_of, edges_of, base_of, next_of, Tabled}
 use Rattle.adjacency.specs.declared.Table.TheVariants.{ByHead}
-use Rattle.events.specs.Held.{Tables}
-use Rattle.preparation.specs.declared.Marks.{Marks}
-use Rattle.preparation.specs.declared.Marks.TheVariants.{Done, Absorbed}
+use Rattle.rows.specs.Rows.{Tables}
+use Rattle.cones.specs.declared.Absorbed.{Absorbed}
 use Rattle.preparation.specs.Flags.{Refused}
 
 -- the producers by head
@@ -41,9 +40,9 @@ pub record Ready (ws : List ℕ) (b : Bases) (w₀ w : List ℕ) : Type 0 where
   pub marking : Marking ws b w₀ w
   pub none : absorbed_in (theory_of ws) ≡ []
 
-unfoldable pub Staged : List ℕ → Bases → List ℕ → List ℕ → Marks → Type 0
-Staged ws b w₀ w Done = Ready ws b w₀ w
-Staged ws b w₀ w (Absorbed n) = Refused ws w₀ w n
+unfoldable pub Staged : List ℕ → Bases → List ℕ → List ℕ → Result (Unit {0}) Absorbed → Type 0
+Staged ws b w₀ w (Ok u) = Ready ws b w₀ w
+Staged ws b w₀ w (Err e) = Refused ws w₀ w e.node
 
 -- the missing atoms are those that still wait
 pub record Passing (ws : List ℕ) (never atom_never : Set) (b : Bases) (w₀ w : List ℕ) : Type 0 where

@@ -10,14 +10,8 @@ ghost use Rattle.preparation.specs.Stages.{Rowed, Onward, Marking, Staged, Passi
 
 use adjacency::Table;
 use area::Bases;
-use cones::Coned;
+use cones::Absorbed;
 use words::Word;
-
-#[derive(Drop)]
-pub enum Marks {
-    Done,
-    Absorbed(usize),
-}
 
 // The four row tables.
 fn build_rows<W: Word>(graph: &[W], work: &mut [W], b: Bases)
@@ -42,22 +36,18 @@ fn walk<W: Word>(graph: &[W], work: &mut [W], b: Bases)
 }
 
 // Row tables, body cone and cyclic atoms.
-fn mark_in<W: Word>(graph: &[W], work: &mut [W], b: Bases) -> Marks
+fn mark_in<W: Word>(graph: &[W], work: &mut [W], b: Bases) -> Result<(), Absorbed>
     requires { Accepted W.edition (W.numbers graph.now) × Based (W.numbers graph.now) (length (W.numbers work.old)) b }
     ensures { Staged (W.numbers graph.now) b (W.numbers work.old) (W.numbers work.new) result }
 {
     build_rows(graph, work, b);
-    match cones::body_cone(graph, work, b) {
-        Coned::Absorbed(n) => Marks::Absorbed(n),
-        Coned::Done(_) => {
-            walk(graph, work, b);
-            Marks::Done
-        }
-    }
+    cones::body_cone(graph, work, b)?;
+    walk(graph, work, b);
+    Ok(())
 }
 
 // The same, with the bases worked out here (`area::bases_of` says why).
-fn mark<W: Word>(graph: &[W], work: &mut [W]) -> Marks
+fn mark<W: Word>(graph: &[W], work: &mut [W]) -> Result<(), Absorbed>
     requires { Accepted W.edition (W.numbers graph.now) × Based (W.numbers graph.now) (length (W.numbers work.old)) (bases_of (W.numbers graph.now) (length (W.numbers work.old))) }
     ensures { Staged (W.numbers graph.now) (bases_of (W.numbers graph.now) (length (W.numbers work.old))) (W.numbers work.old) (W.numbers work.new) result }
 {
@@ -66,7 +56,7 @@ fn mark<W: Word>(graph: &[W], work: &mut [W]) -> Marks
 }
 
 // The cyclic atoms, flagged.
-pub fn cyclic_atoms<W: Word>(graph: &[W], work: &mut [W], b: Bases) -> Marks
+pub fn cyclic_atoms<W: Word>(graph: &[W], work: &mut [W], b: Bases) -> Result<(), Absorbed>
     requires { Accepted W.edition (W.numbers graph.now) × Based (W.numbers graph.now) (length (W.numbers work.old)) b }
     ensures { Marked (W.numbers graph.now) b (W.numbers work.old) (W.numbers work.new) result }
 {
@@ -90,15 +80,11 @@ pub fn missing<W: Word>(
     atom_never: &[u64],
     work: &mut [W],
     b: Bases,
-) -> Marks
+) -> Result<(), Absorbed>
     requires { Accepted W.edition (W.numbers graph.now) × Based (W.numbers graph.now) (length (W.numbers work.old)) b }
     ensures { Listed (W.numbers graph.now) (bit_at never.now) (bit_at atom_never.now) b (W.numbers work.old) (W.numbers work.new) result }
 {
-    match mark(graph, work) {
-        Marks::Absorbed(n) => Marks::Absorbed(n),
-        Marks::Done => {
-            pass(graph, never, atom_never, work, b);
-            Marks::Done
-        }
-    }
+    mark(graph, work)?;
+    pass(graph, never, atom_never, work, b);
+    Ok(())
 }

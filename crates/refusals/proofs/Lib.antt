@@ -1,5 +1,6 @@
 pub mod AcceptEdges
 pub mod SearchLaws
 pub mod RowLaws
+pub mod RefusedLaws
 pub mod AcceptedLaws
 pub mod PlaceLaws

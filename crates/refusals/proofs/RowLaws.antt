@@ -117,25 +117,6 @@ pub upward_passes : (ws : List ℕ) {from r : ℕ} → Clear (turns_at ws) from 
 unfolding bad_next turns
 upward_passes ws c = record { low = c.low; none = λ i p q. (or_false (ltb (get_or ws 4 0) (next_of ws i)) _ (c.none i p q)).0 }
 
--- what a record's test says of the fields that were read is what the row says of the record
-module _ (ws : List ℕ) {answer b : Bool} where
-  pub node_told : (n : ℕ) {kind operand first atoms links : ℕ} → answer ≡ bad_record kind operand first atoms links → kind ≡ get_or ws (node_at n) 0 → operand ≡ get_or ws (node_at n + 1) 0 → first ≡ leaf_link ws n
-      → atoms ≡ get_or ws 1 0 → links ≡ get_or ws 4 0 → answer ≡ b → bad_node ws n ≡ b
-  node_told n e k o f a l t = rw (← k, ← o, ← f, ← a, ← l) (sym e ∙ t)
-
-  pub producer_told : (p : ℕ) {body first nodes links : ℕ} → answer ≡ bad_body body first nodes links → body ≡ get_or ws (producer_at ws p) 0 → first ≡ head_link ws p
-      → nodes ≡ get_or ws 2 0 → links ≡ get_or ws 4 0 → answer ≡ b → bad_producer ws p ≡ b
-  producer_told p e o f n l t = rw (← o, ← f, ← n, ← l) (sym e ∙ t)
-
-  pub link_told : (l : ℕ) {next links : ℕ} → answer ≡ bad_next next links → next ≡ next_of ws l → links ≡ get_or ws 4 0 → answer ≡ b → bad_link ws l ≡ b
-  link_told l e n k t = rw (← n, ← k) (sym e ∙ t)
-
-  pub turn_told : (l : ℕ) {next links : ℕ} → answer ≡ turns next l links → next ≡ next_of ws l → links ≡ get_or ws 4 0 → answer ≡ b → turns_at ws l ≡ b
-  turn_told l e n k t = rw (← n, ← k) (sym e ∙ t)
-
-  pub back_told : {first link : ℕ} → answer ≡ comes_back ws first → first ≡ link → answer ≡ b → comes_back ws link ≡ b
-  back_told e f t = rw (← f) (sym e ∙ t)
-
 -- every entry of a chain that passes is below the limit
 pub entry_low : (limit : ℕ) {x : ℕ} {l : List ℕ} → any (leb limit) l ≡ false → Mem x l → x < limit
 entry_low limit {x} e m = go (bool_cases (leb limit x))

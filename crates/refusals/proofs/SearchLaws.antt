@@ -3,11 +3,12 @@ use mathlib.Core.Path.{◌≡◌, refl, sym, ap, ◌∙◌}
 use mathlib.Core.Bool.{Bool, true, false, cond}
 use mathlib.Core.Logic.{◌⊎◌, inl, inr}
 use Prim.Native.Nat.{ℕ, zero, suc, ◌+◌, ◌≤◌, ◌<◌}
-use native.Mathlib.Decide.{ℕ_discrete}
+use native.Mathlib.Decide.{ℕ_discrete, dec_lt}
 use native.Mathlib.Omega.{arith}
 use Rattle.theory.proofs.SetLaws.{bool_cases}
 use Rattle.refusals.specs.Answer.{refuse, accept, refuse_if, refuse_first}
-use Rattle.refusals.specs.Search.{Clear, First}
+use Rattle.refusals.specs.Search.{Clear, First, Finds}
+use Rattle.std.specs.Prelude.{Option, Some, None}
 
 module _ {bad : ℕ → Bool} where
   pub clear_none : (from : ℕ) → Clear bad from from
@@ -29,6 +30,21 @@ module _ {bad : ℕ → Bool} where
   -- the search came to the end
   pub first_clear : {from end r : ℕ} → First bad from end r → end ≤ r → Clear bad from end
   first_clear {from} f h = let e = f.high in let low = f.before.low in record { low = omega arith; none = λ i p q. f.before.none i p (omega arith) }
+
+  -- a search that began at a later place, where the test holds at none before that
+  later : {from start end r : ℕ} → Clear bad from start → First bad start end r → First bad from end r
+  later {from} {start} {r = r} c f =
+      let low = f.before.low in
+      let high = c.low in
+      record { before = record { low = omega arith; none = λ i p q. go i p q (dec_lt i start) }; high = f.high; found = f.found }
+    where
+      go : (i : ℕ) → from ≤ i → i < r → Dec (i < start) → bad i ≡ false
+      go i p q (yes h) = c.none i p h
+      go i p q (no h) = f.before.none i (omega arith) q
+
+  pub finds_later : (start end : ℕ) {from : ℕ} → Clear bad from start → (r : Option ℕ) → Finds bad start end r → Finds bad from end r
+  finds_later start end c None f = later c f
+  finds_later start end c (Some i) f = (f.0, later c f.1)
 
 module _ (bad : ℕ → Bool) where
   -- the row refuses at the place that was found

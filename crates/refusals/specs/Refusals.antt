@@ -1,5 +1,5 @@
 -- Refusals 1 to 9 and 14 (document 01, "Where a call is turned away", and document 02, request 5): a named test for each row, and the table in its order.
-use Rattle.std.specs.Prelude.{Bool, not, ◌&&◌, ◌||◌, cond, List, [], ◌∷◌, ℕ, ◌+◌, eqb, ltb, leb, length, get_or}
+use Rattle.std.specs.Prelude.{Bool, not, ◌&&◌, ◌||◌, cond, List, [], ◌∷◌, ℕ, ◌+◌, eqb, ltb, leb, length, get_or, Result, Ok, Err}
 use Rattle.theory.specs.Sets.{any}
 use Rattle.theory.specs.Theory.{joins}
 use Rattle.theory.specs.Words.{kind_of, node_at, producer_at, next_of, chain, theory_of}
@@ -8,8 +8,8 @@ use Rattle.theory.specs.Accepted.{Edition, size_of, leaf_entries, head_entries}
 use Rattle.graph.specs.Layout.{leaf_link, head_link}
 use Rattle.graph.specs.Kinds.{takes_operand}
 use Rattle.refusals.specs.Answer.{Answer, accept, refuse, refuse_if, refuse_first, first_refusal}
-use Rattle.refusals.specs.declared.Checked.{Checked}
-use Rattle.refusals.specs.declared.Checked.TheVariants.{Accepted, Edition as EditionRefused, Counts, Size, Node, Producer, Link, Back, Leaf, Head, Entries}
+use Rattle.refusals.specs.declared.Refusal.{Refusal}
+use Rattle.refusals.specs.declared.Refusal.TheVariants.{Edition as EditionRefused, Counts, Size, Node, Producer, Link, Back, Leaf, Head, Entries}
 
 module _ (ed : Edition) (ws : List ℕ) where
   -- 1: fewer than 5 words, or another edition
@@ -94,16 +94,20 @@ graph_rows ed ws =
 unfoldable pub graph_answer : Edition → List ℕ → Answer
 graph_answer ed ws = first_refusal (graph_rows ed ws)
 
--- number and place of each case of `Checked`
-abbrev pub answer_of : Checked → Answer
-answer_of Accepted = accept
-answer_of EditionRefused = refuse 1 0
-answer_of Counts = refuse 2 0
-answer_of Size = refuse 3 0
-answer_of (Node n) = refuse 4 n
-answer_of (Producer p) = refuse 5 p
-answer_of (Link l) = refuse 6 l
-answer_of (Back i) = refuse 14 i
-answer_of (Leaf n) = refuse 7 n
-answer_of (Head p) = refuse 8 p
-answer_of Entries = refuse 9 0
+-- number and place of each case of `Refusal`
+abbrev pub refused_as : Refusal → Answer
+refused_as EditionRefused = refuse 1 0
+refused_as Counts = refuse 2 0
+refused_as Size = refuse 3 0
+refused_as (Node n) = refuse 4 n
+refused_as (Producer p) = refuse 5 p
+refused_as (Link l) = refuse 6 l
+refused_as (Back i) = refuse 14 i
+refused_as (Leaf n) = refuse 7 n
+refused_as (Head p) = refuse 8 p
+refused_as Entries = refuse 9 0
+
+-- what the check answers
+abbrev pub answer_of : Result (Unit {0}) Refusal → Answer
+answer_of (Ok u) = accept
+answer_of (Err e) = refused_as e

@@ -1,22 +1,24 @@
-// What the graph check answers, and its rows 1 to 6, which look at one record at a time (document 01, "Where a call is turned away"; document 02, request 5). Rows 14 and 7 to 9 and the
+// Why the graph check refuses, and its rows 1 to 6, which look at one record at a time (document 01, "Where a call is turned away"; document 02, request 5). Rows 14 and 7 to 9 and the
 // check itself are in crate checking.
 #![tactic(auto)]
 
-ghost use Rattle.std.specs.Prelude.{◌≡◌, ◌+◌, ◌≤◌, length, get_or};
+pub mod search;
+
+ghost use Rattle.std.specs.Prelude.{◌≡◌, ◌+◌, ◌≤◌, ◌<◌, length, get_or};
 ghost use Rattle.refusals.specs.Passed.{Sized, turns, turns_at};
-ghost use Rattle.refusals.specs.Search.{Clear, First};
+ghost use Rattle.refusals.specs.Search.{Clear, Finds};
 ghost use Rattle.refusals.specs.Refusals.{bad_edition, bad_counts, bad_size, bad_operand, bad_first, bad_record, bad_node, bad_body, bad_producer, bad_next, bad_link};
 
+use crate::search::first;
 use graph::{
     atoms, body, first_head, first_leaf, kind, links, links_from, next, nodes, operand, producers,
     takes_links, takes_operand,
 };
 use words::{Word, at};
 
-// What the check answers. specs/Refusals has the number and place of each.
-#[derive(Clone, Copy)]
-pub enum Checked {
-    Accepted,
+// Why the check turns a graph away. specs/Refusals has the number and place of each.
+#[derive(Clone, Copy, Debug, PartialEq, Eq)]
+pub enum Refusal {
     Edition,
     Counts,
     Size,
@@ -100,31 +102,28 @@ fn bad_record(kind: usize, operand: usize, first: usize, atoms: usize, links: us
     bad_first(kind, first, links)
 }
 
-// The first node whose record is wrong, or N.
-pub fn bad_node<W: Word>(graph: &[W]) -> usize
-    requires { Sized W.edition (W.numbers graph.now) }
-    ensures { First (bad_node (W.numbers graph.now)) 0 (get_or (W.numbers graph.now) 2 0) result }
+fn bad_node_at<W: Word>(graph: &[W], n: usize) -> bool
+    requires { Sized W.edition (W.numbers graph.now) × (n < get_or (W.numbers graph.now) 2 0) }
+    ensures { result ≡ bad_node (W.numbers graph.now) n }
 {
-    let end = nodes(graph);
-    let atoms = atoms(graph);
-    let links = links(graph);
-    let mut n = 0;
-    while n < end {
-        if bad_record(
-            kind(graph, n),
-            operand(graph, n),
-            first_leaf(graph, n),
-            atoms,
-            links,
-        ) {
-            return n;
-        }
-        n += 1;
-    }
-    n
+    bad_record(
+        kind(graph, n),
+        operand(graph, n),
+        first_leaf(graph, n),
+        atoms(graph),
+        links(graph),
+    )
 }
 
-// Row 5: the first producer whose record is wrong, or P.
+// The first node whose record is wrong.
+pub fn bad_node<W: Word>(graph: &[W]) -> Option<usize>
+    requires { Sized W.edition (W.numbers graph.now) }
+    ensures { Finds (bad_node (W.numbers graph.now)) 0 (get_or (W.numbers graph.now) 2 0) result }
+{
+    first(0, nodes(graph), |n| bad_node_at(graph, n))
+}
+
+// Row 5.
 fn bad_body(body: usize, first: usize, nodes: usize, links: usize) -> bool
     ensures { result ≡ bad_body body first nodes links }
 {
@@ -134,24 +133,27 @@ fn bad_body(body: usize, first: usize, nodes: usize, links: usize) -> bool
     links < first
 }
 
-pub fn bad_producer<W: Word>(graph: &[W]) -> usize
-    requires { Sized W.edition (W.numbers graph.now) }
-    ensures { First (bad_producer (W.numbers graph.now)) 0 (get_or (W.numbers graph.now) 3 0) result }
+fn bad_producer_at<W: Word>(graph: &[W], p: usize) -> bool
+    requires { Sized W.edition (W.numbers graph.now) × (p < get_or (W.numbers graph.now) 3 0) }
+    ensures { result ≡ bad_producer (W.numbers graph.now) p }
 {
-    let end = producers(graph);
-    let nodes = nodes(graph);
-    let links = links(graph);
-    let mut p = 0;
-    while p < end {
-        if bad_body(body(graph, p), first_head(graph, p), nodes, links) {
-            return p;
-        }
-        p += 1;
-    }
-    p
+    bad_body(
+        body(graph, p),
+        first_head(graph, p),
+        nodes(graph),
+        links(graph),
+    )
 }
 
-// Links that only lead upward: a next is 0 or a later link of the graph. Then row 6 passes and no chain comes back. The first link whose next is another, or K + 1.
+// The first producer whose record is wrong.
+pub fn bad_producer<W: Word>(graph: &[W]) -> Option<usize>
+    requires { Sized W.edition (W.numbers graph.now) }
+    ensures { Finds (bad_producer (W.numbers graph.now)) 0 (get_or (W.numbers graph.now) 3 0) result }
+{
+    first(0, producers(graph), |p| bad_producer_at(graph, p))
+}
+
+// Links that only lead upward: a next is 0 or a later link of the graph. Then row 6 passes and no chain comes back. The first link whose next is another.
 fn turns(next: usize, l: usize, links: usize) -> bool
     ensures { result ≡ turns next l links }
 {
@@ -164,41 +166,37 @@ fn turns(next: usize, l: usize, links: usize) -> bool
     next <= l
 }
 
-pub fn first_turn<W: Word>(graph: &[W]) -> usize
-    requires { Sized W.edition (W.numbers graph.now) }
-    ensures { First (turns_at (W.numbers graph.now)) 1 (get_or (W.numbers graph.now) 4 0 + 1) result }
+fn turns_at<W: Word>(graph: &[W], l: usize) -> bool
+    requires { Sized W.edition (W.numbers graph.now) × (0 < l) × (l ≤ get_or (W.numbers graph.now) 4 0) }
+    ensures { result ≡ turns_at (W.numbers graph.now) l }
 {
-    let end = links(graph);
-    let from = links_from(graph);
-    let mut l = 1;
-    while l <= end {
-        if turns(next(graph, from, l), l, end) {
-            return l;
-        }
-        l += 1;
-    }
-    l
+    turns(next(graph, links_from(graph), l), l, links(graph))
 }
 
-// Row 6: the first link whose next is wrong, or K + 1. Those before `start` lead upward.
+pub fn first_turn<W: Word>(graph: &[W]) -> Option<usize>
+    requires { Sized W.edition (W.numbers graph.now) }
+    ensures { Finds (turns_at (W.numbers graph.now)) 1 (get_or (W.numbers graph.now) 4 0 + 1) result }
+{
+    first(1, links(graph) + 1, |l| turns_at(graph, l))
+}
+
+// Row 6: the first link from `start` on whose next is wrong. Those before it lead upward.
 fn bad_next(next: usize, links: usize) -> bool
     ensures { result ≡ bad_next next links }
 {
     links < next
 }
 
-pub fn bad_link<W: Word>(graph: &[W], start: usize) -> usize
-    requires { Sized W.edition (W.numbers graph.now) × (start ≤ get_or (W.numbers graph.now) 4 0) × Clear (turns_at (W.numbers graph.now)) 1 start }
-    ensures { First (bad_link (W.numbers graph.now)) 1 (get_or (W.numbers graph.now) 4 0 + 1) result }
+fn bad_link_at<W: Word>(graph: &[W], l: usize) -> bool
+    requires { Sized W.edition (W.numbers graph.now) × (0 < l) × (l ≤ get_or (W.numbers graph.now) 4 0) }
+    ensures { result ≡ bad_link (W.numbers graph.now) l }
 {
-    let end = links(graph);
-    let from = links_from(graph);
-    let mut l = start;
-    while l <= end {
-        if bad_next(next(graph, from, l), end) {
-            return l;
-        }
-        l += 1;
-    }
-    l
+    bad_next(next(graph, links_from(graph), l), links(graph))
+}
+
+pub fn bad_link<W: Word>(graph: &[W], start: usize) -> Option<usize>
+    requires { Sized W.edition (W.numbers graph.now) × (start ≤ get_or (W.numbers graph.now) 4 0) × Clear (turns_at (W.numbers graph.now)) 1 start }
+    ensures { Finds (bad_link (W.numbers graph.now)) 1 (get_or (W.numbers graph.now) 4 0 + 1) result }
+{
+    first(start, links(graph) + 1, |l| bad_link_at(graph, l))
 }

@@ -3,7 +3,7 @@ use mathlib.Core.Path.{◌≡◌, refl, sym, ap, ◌∙◌}
 use mathlib.Core.Logic.{◌⊎◌, inl, inr}
 use mathlib.Core.Bool.{Bool, true, false}
 use mathlib.Core.List.{List, [], ◌∷◌, ◌++◌}
-use Prim.Native.Nat.{ℕ, ◌+◌, ◌*◌, ◌/◌, ◌≤◌}
+use Prim.Native.Nat.{ℕ, ◌+◌, ◌*◌, ◌/◌, ◌≤◌, ◌<◌}
 use native.Mathlib.Omega.{arith}
 use lib.Dec.{eqb}
 use lib.ListN.{length, get_or, take, drop, length-take}
@@ -18,25 +18,25 @@ use Rattle.theory.specs.Cases.{absorbed_in}
 use Rattle.theory.proofs.SetLaws.{bool_cases}
 use Rattle.mask.specs.Mask.{words_of, pack}
 use Rattle.refusals.specs.Answer.{Answer, accept, refuse, or_next, first_refusal}
-use Rattle.refusals.specs.Refusals.{graph_rows, graph_answer, answer_of}
-use Rattle.refusals.specs.declared.Checked.{Checked}
-use Rattle.refusals.specs.declared.Checked.TheVariants.{Accepted, Edition, Counts, Size, Node, Producer, Link, Back, Leaf, Head, Entries}
+use Rattle.refusals.specs.Refusals.{graph_rows, graph_answer, refused_as}
+use Rattle.refusals.specs.declared.Refusal.{Refusal}
 use Rattle.refusals.proofs.AcceptedLaws.{accepted}
-use Rattle.founded.specs.Answers.{absorbed_row, bad_lengths, completed_of, Completes}
-use Rattle.founded.specs.declared.Completed.{Completed}
+use Rattle.founded.specs.Answers.{absorbed_row, bad_lengths, turned_as, call_of, Completes}
+use Rattle.founded.specs.declared.CallError.{CallError}
+use Rattle.founded.specs.declared.CallError.TheVariants.{Refused, Lengths}
+use Rattle.founded.proofs.OutcomeLaws.{graph_number, call_some}
 use Rattle.founded.proofs.OutputLaws.{missing_list}
 use Rattle.founded.proofs.CallLaws.{absorbed_last, last_row, work_fits}
 use Rattle.input.specs.Bytes.{words}
-use Rattle.text.specs.Text.{loops_line, missing_line, Appended}
+use Rattle.text.specs.Text.{loops_line, missing_line, refused_line, Appended}
 use Rattle.report.specs.Report.{lines, atom_mask, node_mask, bad_masks, answer, Printed, Split}
-use Rattle.report.specs.declared.Refusal.{Refusal}
 use Rattle.report.specs.Answered.{Refuses, Says, Ready, Answered}
 
 -- ---- the pass
 
 -- nothing but row 12 is left for the pass to refuse
-pub pass_row : {graph never atom_never output work output' work' : List ℕ} {r : Completed} → Ready graph never atom_never output → length work ≡ 32768
-    → Completes edition1 graph never atom_never output work output' work' r → absorbed_row (theory_of graph) (completed_of r).place ≡ completed_of r
+pub pass_row : {graph never atom_never output work output' work' : List ℕ} {r : Result (Unit {0}) CallError} → Ready graph never atom_never output → length work ≡ 32768
+    → Completes edition1 graph never atom_never output work output' work' r → absorbed_row (theory_of graph) (call_of r).place ≡ call_of r
 unfolding bad_lengths
 pass_row {graph} {never} {atom_never} {output} {work} ready hw done =
     let fit : bad_lengths graph (length never) (length atom_never) (length output) ≡ false =
@@ -50,15 +50,12 @@ answer_row graph masks p e h = rw (e, h) (absorbed_last (theory_of graph) p)
 
 -- ---- what is known before the text is written
 
-pub answer_eq : (a : Answer) {n p : ℕ} → n ≡ a.number → p ≡ a.place → refuse n p ≡ a
-answer_eq a en ep = rw (en, ep)
-
-pub answered_err : {answers : ℕ → Answer} {graph never atom_never output : List ℕ} {e : Refusal} {r : Result Bool Refusal} (p : ℕ) → r ≡ Err e → Refuses (answers p) e
+pub answered_err : {answers : ℕ → Answer} {graph never atom_never output : List ℕ} {e : CallError} {r : Result Bool CallError} (p : ℕ) → r ≡ Err e → Refuses (answers p) e
     → ((answers p).number ≡ 12 → Mem p (absorbed_in (theory_of graph))) → Answered answers graph never atom_never output r
 answered_err p k h m = rw k record { place = p; says = record { ok = tt; err = h }; absorbed = m; cycle = tt; listed = tt }
 
 -- the same answers, the same masks and the same output
-pub answered_same : {answers others : ℕ → Answer} {graph never atom_never output never' atom_never' output' : List ℕ} {r : Result Bool Refusal} → ((p : ℕ) → answers p ≡ others p)
+pub answered_same : {answers others : ℕ → Answer} {graph never atom_never output never' atom_never' output' : List ℕ} {r : Result Bool CallError} → ((p : ℕ) → answers p ≡ others p)
     → never' ≡ never → atom_never' ≡ atom_never → output ≡ output' → Answered others graph never' atom_never' output' r → Answered answers graph never atom_never output r
 answered_same e en ea eo t = rw (← en, ← ea, eo) record { place = t.place; says = rw (e t.place) t.says; absorbed = rw (e t.place) t.absorbed; cycle = t.cycle; listed = t.listed }
 
@@ -71,6 +68,11 @@ append_within {text = text} {new = new} {r = r} a = omega (arith, a.end, sym (le
 pub print_both : {answers : ℕ → Answer} {graph never atom_never output both old new text : List ℕ} {r : ℕ} {yes : Bool} → Answered answers graph never atom_never output (Ok yes) → text ≡ both
     → Appended old 0 text new r → Printed answers both (theory_of graph) old new r
 print_both a h t = record { place = a.place; within = append_within t; exact = sym (length-take-le _ _ (append_within t)); text = t.text_there ∙ rw (a.says.ok, h); behind = t.behind; absorbed = a.absorbed }
+
+pub print_refused : {answers : ℕ → Answer} {graph never atom_never output both old new : List ℕ} {r n p : ℕ} {e : CallError} → Answered answers graph never atom_never output (Err e)
+    → n ≡ (turned_as e).number → p ≡ (turned_as e).place → Appended old 0 (refused_line n p) new r → Printed answers both (theory_of graph) old new r
+print_refused {e = e} a en ep t =
+    record { place = a.place; within = append_within t; exact = sym (length-take-le _ _ (append_within t)); text = t.text_there ∙ rw (en, ep, a.says.err.same, call_some e); behind = t.behind; absorbed = a.absorbed }
 
 pub lines_same : (graph never atom_never output : List ℕ) (cycle : Bool) (atoms : ℕ) → cycle ≡ has_cycle (theory_of graph) → atoms ≡ get_or graph 1 0
     → output ≡ pack (get_or graph 1 0) (missing (theory_of graph) (bit_at never) (bit_at atom_never))
@@ -86,20 +88,6 @@ pub record Few (graph : List ℕ) : Type 0 where
 
 pub accepted_few : (graph : List ℕ) → graph_answer edition1 graph ≡ accept → Few graph
 accepted_few graph e = let a = accepted edition1 graph e in record { long = omega (arith, a.size); atoms = a.atoms_few; nodes = a.nodes_few }
-
--- the graph's own refusals are not 12
-pub checked_other : (c : Checked) → (answer_of c).number ≡ 12 → ⊥
-checked_other Accepted e = omega arith
-checked_other Edition e = omega arith
-checked_other Counts e = omega arith
-checked_other Size e = omega arith
-checked_other (Node n) e = omega arith
-checked_other (Producer p) e = omega arith
-checked_other (Link l) e = omega arith
-checked_other (Back i) e = omega arith
-checked_other (Leaf n) e = omega arith
-checked_other (Head p) e = omega arith
-checked_other Entries e = omega arith
 
 -- a table that gives number 0 accepts
 accepts : (rows : List Answer) → (first_refusal rows).number ≡ 0 → first_refusal rows ≡ accept
@@ -132,22 +120,19 @@ pub answer_masks : (graph masks : List ℕ) (p : ℕ) → graph_answer edition1 
 unfolding answer first_refusal
 answer_masks graph masks p e h = rw (e, h)
 
--- the graph check's refusal is the program's
-pub answered_graph : {graph never atom_never output : List ℕ} {e : Refusal} {r : Result Bool Refusal} (masks : List ℕ) → r ≡ Err e → Says {A = Unit {0}} (graph_answer edition1 graph) (Err e)
-    → ((graph_answer edition1 graph).number ≡ 12 → ⊥) → Answered (answer graph masks) graph never atom_never output r
-answered_graph {graph} masks k says other =
-    let h = says.err in
-    let same = answer_graph graph masks 0 (graph_answer edition1 graph) refl (λ z. h.some (ap (λ (a : Answer). a.number) (sym h.same) ∙ z)) in
-    answered_err 0 k (rw same h) (λ z. absurd (other (rw same at z)))
+-- the graph check's refusal is the program's; it is not 12
+pub answered_graph : {graph never atom_never output : List ℕ} (masks : List ℕ) (e : Refusal) {r : Result Bool CallError} → r ≡ Err (Refused e) → refused_as e ≡ graph_answer edition1 graph
+    → (graph_answer edition1 graph).place < 65536 → Answered (answer graph masks) graph never atom_never output r
+answered_graph {graph} masks e k q low =
+    let n = graph_number e in
+    let same = answer_graph graph masks 0 (refused_as e) (sym q) (eqb-false _ 0 n.0) in
+    answered_err 0 k record { same = same; place_low = rw q low } (λ z. absurd (eqb-false _ 12 n.1 (ap (λ (a : Answer). a.number) (sym same) ∙ z)))
 
 pub answered_masks : {graph never atom_never output : List ℕ} (masks : List ℕ) → graph_answer edition1 graph ≡ accept → bad_masks graph masks ≡ true
-    → Answered (answer graph masks) graph never atom_never output (Err record { number = 10; place = 0 })
+    → Answered (answer graph masks) graph never atom_never output (Err Lengths)
 answered_masks {graph} masks e h =
     let same = answer_masks graph masks 0 e h in
-    answered_err 0 refl (rw same record { same = refl; some = λ z. omega arith; number_low = omega arith; place_low = omega arith }) (λ z. absurd (omega (arith, ap (λ (a : Answer). a.number) same, z)))
-
-pub says_accepts : (graph : List ℕ) {u : Unit {0}} → Says (graph_answer edition1 graph) (Ok u) → graph_answer edition1 graph ≡ accept
-says_accepts graph says = graph_accepts graph says.ok
+    answered_err 0 refl record { same = same; place_low = omega arith } (λ z. absurd (omega (arith, ap (λ (a : Answer). a.number) same, z)))
 
 pub answered_few : {graph never atom_never output : List ℕ} {yes : Bool} (masks : List ℕ) → Answered (answer graph masks) graph never atom_never output (Ok yes) → Few graph
 answered_few {graph} masks a = accepted_few graph (answer_accepts graph masks a.place a.says.ok)

@@ -1,24 +1,23 @@
 -- What the program knows before it writes: a refusal, or what the two lines say.
-use Rattle.std.specs.Prelude.{◌≡◌, ◌≢◌, Bool, List, ℕ, ◌<◌, length, get_or, Result, OnOk, IfOk, IfErr}
+use Rattle.std.specs.Prelude.{◌≡◌, Bool, List, ℕ, ◌<◌, length, get_or, Result, OnOk, IfOk, IfErr}
 use Rattle.theory.specs.Sets.{Mem}
 use Rattle.theory.specs.Words.{theory_of, bit_at}
 use Rattle.theory.specs.Accepted.{edition1}
 use Rattle.theory.specs.Founded.{has_cycle, missing}
 use Rattle.theory.specs.Cases.{absorbed_in}
 use Rattle.mask.specs.Mask.{words_of, pack}
-use Rattle.refusals.specs.Answer.{Answer, accept, refuse}
+use Rattle.refusals.specs.Answer.{Answer, accept}
 use Rattle.refusals.specs.Refusals.{graph_answer}
-use Rattle.report.specs.declared.Refusal.{Refusal}
+use Rattle.founded.specs.declared.CallError.{CallError}
+use Rattle.founded.specs.Answers.{turned_as}
 
--- a refusal is the answer's, and fits its line
-pub record Refuses (a : Answer) (e : Refusal) : Type 0 where
-  pub same : a ≡ refuse e.number e.place
-  pub some : e.number ≢ 0
-  pub number_low : e.number < 65536
-  pub place_low : e.place < 65536
+-- the error is the answer's refusal, and its place fits its line
+pub record Refuses (a : Answer) (e : CallError) : Type 0 where
+  pub same : a ≡ turned_as e
+  pub place_low : (turned_as e).place < 65536
 
--- an error exactly if the answer refuses, and then with its number and place
-pub record Says {A : Type 0} (a : Answer) (r : Result A Refusal) : Type 0 where
+-- an error exactly if the answer refuses, and then that refusal
+pub record Says {A : Type 0} (a : Answer) (r : Result A CallError) : Type 0 where
   pub ok : OnOk r (a.number ≡ 0)
   pub err : IfErr r (Refuses a)
 
@@ -31,7 +30,7 @@ pub record Ready (graph never atom_never output : List ℕ) : Type 0 where
 
 -- The answer for the place of a 12, which is free among the absorbed nodes of the body cone; without a refusal the loop test's reply, and in the output
 -- the missing atoms.
-pub record Answered (answers : (place : ℕ) → Answer) (graph never atom_never output : List ℕ) (r : Result Bool Refusal) : Type 0 where
+pub record Answered (answers : (place : ℕ) → Answer) (graph never atom_never output : List ℕ) (r : Result Bool CallError) : Type 0 where
   pub place : ℕ
   pub says : Says (answers place) r
   pub absorbed : (answers place).number ≡ 12 → Mem place (absorbed_in (theory_of graph))

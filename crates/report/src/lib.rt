@@ -1,44 +1,25 @@
 // The program's text: from standard input's bytes to the bytes that are written (document 01, "The program").
 #![tactic(auto)]
 
-ghost use Rattle.std.specs.Prelude.{◌≡◌, ◌≢◌, false, ◌<◌, ◌≤◌, length, get_or, take};
+ghost use Rattle.std.specs.Prelude.{◌≡◌, false, ◌≤◌, length, get_or, take};
 ghost use Rattle.theory.specs.Words.{theory_of};
 ghost use Rattle.theory.specs.Accepted.{edition1};
 ghost use Rattle.theory.specs.Founded.{has_cycle};
-ghost use Rattle.refusals.specs.Answer.{accept, refuse};
+ghost use Rattle.refusals.specs.Answer.{accept};
 ghost use Rattle.refusals.specs.Refusals.{graph_answer};
 ghost use Rattle.founded.specs.Answers.{absorbed_row};
 ghost use Rattle.mask.specs.Mask.{words_of};
 ghost use Rattle.report.specs.Report.{bad_masks, node_mask, atom_mask, answer as Report·answer, Split, ReportedOf, Reported};
-ghost use Rattle.report.specs.Answered.{Says, Ready, Answered};
+ghost use Rattle.report.specs.Answered.{Ready, Answered};
 
-use cycles::Need;
-
-// What a refusal's line says. Both are numbers, as crate numbers lists them.
-#[derive(Clone, Copy)]
-struct Refusal {
-    number: usize,
-    place: usize,
-}
-
-// An answer's number and place as a refusal; number 0 is none.
-fn refused(number: usize, place: usize) -> Result<(), Refusal>
-    requires { (number < 65536) × (place < 65536) }
-    ensures { Says (refuse number place) result }
-{
-    if number == 0 {
-        Ok(())
-    } else {
-        Err(Refusal { number, place })
-    }
-}
+use founded::CallError;
 
 // The loop test on an accepted graph.
 fn loops(graph: &[u16], work: &mut [u16]) -> bool
     requires { (graph_answer edition1 graph.now ≡ accept) × (length work.old ≡ 32768) }
     ensures { result ≡ has_cycle (theory_of graph.now) }
 {
-    matches!(cycles::needed(graph, work), Need::Yes)
+    matches!(cycles::needed(graph, work), Ok(true))
 }
 
 // The loop test and the pass: whether there is a loop, and in `output` the missing atoms.
@@ -47,30 +28,14 @@ fn pass(
     never: &[u64],
     atom_never: &[u64],
     output: &mut [u64],
-) -> Result<bool, Refusal>
+) -> Result<bool, CallError>
     requires { Ready graph.now never.now atom_never.now output.old }
     ensures { Answered (absorbed_row (theory_of graph.now)) graph.now never.now atom_never.now output.new result }
 {
     let mut work = [0u16; 32768];
     let cycle = loops(graph, &mut work);
-    let completed = founded::complete(graph, never, atom_never, output, &mut work);
-    refused(
-        numbers::completed_number(completed),
-        numbers::completed_place(completed),
-    )?;
+    founded::complete(graph, never, atom_never, output, &mut work)?;
     Ok(cycle)
-}
-
-// Rows 1 to 9 and 14.
-fn check(graph: &[u16]) -> Result<(), Refusal>
-    ensures says { Says (graph_answer edition1 graph.now) result }
-    ensures other { (graph_answer edition1 graph.now).number ≢ 12 }
-{
-    let checked = checking::check(graph);
-    refused(
-        numbers::checked_number(checked),
-        numbers::checked_place(checked),
-    )
 }
 
 // Row 10, of the bytes of both masks.
@@ -90,15 +55,12 @@ fn atom_bytes(graph: &[u16], masks: &[u8]) -> usize
 }
 
 // The program's answer. Of the masks' bytes the first are the atom mask, and the rest is the node mask.
-fn answer(graph: &[u16], masks: &[u8], output: &mut [u64; 16]) -> Result<bool, Refusal>
+fn answer(graph: &[u16], masks: &[u8], output: &mut [u64; 16]) -> Result<bool, CallError>
     ensures { Answered (Report·answer graph.now masks.now) graph.now (node_mask graph.now masks.now) (atom_mask graph.now masks.now) (take (words_of (get_or graph.now 1 0)) output.new) result }
 {
-    check(graph)?;
+    checking::check(graph)?;
     if bad_masks(graph, masks) {
-        return Err(Refusal {
-            number: 10,
-            place: 0,
-        });
+        return Err(CallError::Lengths);
     }
     let (atom_part, node_part) = masks.split_at(atom_bytes(graph, masks));
     let mut atom_never = [0u64; 16];
@@ -124,7 +86,7 @@ fn report_graph(graph: &[u16], masks: &[u8], out: &mut [u8]) -> usize
             let atoms = graph::atoms(graph);
             text::put_lines(out, cycle, &output[..mask::words(atoms)], atoms)
         }
-        Err(refusal) => text::put_refusal(out, refusal.number, refusal.place),
+        Err(e) => text::put_refusal(out, numbers::call_number(e), numbers::call_place(e)),
     }
 }
 

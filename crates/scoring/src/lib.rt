@@ -7,6 +7,7 @@ ghost use Rattle.recording.specs.Reading.{Keeps, Tells};
 ghost use Rattle.scoring.specs.Scores.{scored, Scored};
 ghost use Rattle.scoring.specs.Said.{CheckSaid, NeededSaid, PrepareSaid, CompleteSaid, RunSaid};
 
+use agreement::{Answer, Outcome};
 use recording::{Malformed, Reader};
 use records::{Check, Complete, Needed, Prepare, Run};
 use std::fmt;
@@ -64,7 +65,11 @@ pub fn score_check<R: Read>(
     ensures unscored { OnErr result (score.new ≡ score.old) }
 {
     let said = Check::read(reader)?;
-    score.count(agreement::check_agrees(graph, said.number, said.place));
+    let answer = Answer {
+        number: said.number,
+        place: said.place,
+    };
+    score.count(agreement::check_agrees(graph, answer));
     Ok(said)
 }
 
@@ -80,9 +85,26 @@ pub fn score_needed<R: Read>(
     ensures unscored { OnErr result (score.new ≡ score.old) }
 {
     let said = Needed::read(reader, work.len())?;
+    let answer = Answer {
+        number: said.number,
+        place: said.place,
+    };
     let work = &mut work[..said.work];
-    score.count(agreement::needed_agrees(graph, work, said.number, said.place, said.reply));
+    score.count(agreement::needed_agrees(graph, work, answer, said.reply));
     Ok(said)
+}
+
+// What was read of preparation, or of the pass, as the comparison takes it.
+fn outcome(said: &Prepare) -> Outcome<'_>
+    ensures number { result.number ≡ said.now.number }
+    ensures places { result.places.now ≡ said.now.places.items }
+    ensures words { result.words.now ≡ said.now.output.items }
+{
+    Outcome {
+        number: said.number,
+        places: said.places.as_slice(),
+        words: said.output.as_slice(),
+    }
 }
 
 pub fn score_prepare<R: Read>(
@@ -97,15 +119,13 @@ pub fn score_prepare<R: Read>(
     ensures unscored { OnErr result (score.new ≡ score.old) }
 {
     let said = Prepare::read(reader, work.len())?;
-    let words = said.output.as_slice();
+    let outcome = outcome(&said);
     let mut output = [0u64; 32];
     score.count(agreement::prepare_agrees(
         graph,
-        &mut output[..words.len()],
+        &mut output[..outcome.words.len()],
         &mut work[..said.work],
-        said.number,
-        said.places.as_slice(),
-        words,
+        &outcome,
     ));
     Ok(said)
 }
@@ -122,18 +142,15 @@ pub fn score_complete<R: Read>(
     ensures unscored { OnErr result (score.new ≡ score.old) }
 {
     let said = Complete::read(reader, work.len())?;
-    let rest = &said.rest;
-    let words = rest.output.as_slice();
+    let outcome = outcome(&said.rest);
     let mut output = [0u64; 32];
     score.count(agreement::complete_agrees(
         graph,
         said.never.as_slice(),
         said.atom_never.as_slice(),
-        &mut output[..words.len()],
-        &mut work[..rest.work],
-        rest.number,
-        rest.places.as_slice(),
-        words,
+        &mut output[..outcome.words.len()],
+        &mut work[..said.rest.work],
+        &outcome,
     ));
     Ok(said)
 }

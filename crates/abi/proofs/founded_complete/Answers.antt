@@ -5,8 +5,8 @@ use Rattle.theory.specs.Accepted.{edition1}
 use Rattle.founded.proofs.PlaceLaws.{completed_place}
 use Rattle.abi.proofs.founded_complete.Goals as goal
 
-pub completed_code-requires : goal.completed_code-requires
-completed_code-requires c =
+pub call_code-requires : goal.call_code-requires
+call_code-requires c =
     let n : get_or c.args.graph.now 2 0 < 65536 = omega (arith, c.shared_slice_known-1.given 2) in
     let p : get_or c.args.graph.now 3 0 < 65536 = omega (arith, c.shared_slice_known-1.given 3) in
     let k : get_or c.args.graph.now 4 0 < 65536 = omega (arith, c.shared_slice_known-1.given 4) in

@@ -2,12 +2,9 @@ use Prim.Native.Nat.{◌-◌}
 use Rattle.theory.specs.Words.{theory_of}
 use Rattle.theory.specs.Rows.{stream}
 use Rattle.theory.specs.Drive.{Drives}
-use Rattle.adjacency.specs.Tables.{keys_of, edges_of}
+use Rattle.adjacency.specs.Tables.{keys_of, items_of, edges_of}
 use Rattle.adjacency.specs.Building.{Building}
 use Rattle.adjacency.proofs.place_all.Given as goal
 
 abbrev pub invariant-loop-i : goal.invariant-loop-i
-invariant-loop-i g l = Drives (Building g.W.Word.limit l.filling l.rows) 0 (g.W.Word.numbers l.initial.part) 0 (edges_of (theory_of (g.W.Word.numbers l.graph)) l.table) (g.W.Word.numbers l.part) 0 (stream (keys_of (theory_of (g.W.Word.numbers l.graph)) l.table) l.i (l.n - l.i))
-
-abbrev pub decreases-loop-i : goal.decreases-loop-i
-decreases-loop-i g l = l.n - l.i
+invariant-loop-i g l = Drives (Building g.W.Word.limit l.filling l.rows) 0 (g.W.Word.numbers l.initial.part) 0 (edges_of (theory_of (g.W.Word.numbers l.graph)) l.table) (g.W.Word.numbers l.part) 0 (stream (keys_of (theory_of (g.W.Word.numbers l.graph)) l.table) l.i (items_of (theory_of (g.W.Word.numbers l.graph)) l.table - l.i))

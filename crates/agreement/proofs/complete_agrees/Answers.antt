@@ -1,11 +1,12 @@
+use borrow.Author.Rules.{rules}
 use Rattle.agreement.proofs.complete_agrees.Goals as goal
 
 pub returns : goal.returns
 returns c =
     record {
       code = c.founded_complete-code.result;
-      output = _;
-      work = _;
-      promised = rw (c.set_all_wide.ensures, c.fill.ensures) at c.founded_complete-code.ensures;
-      told = c.outcome_agrees.ensures;
+      output = c.founded_complete-code.new.output;
+      work = c.founded_complete-code.new.work;
+      promised = search rules;
+      told = c.agrees.ensures;
     }

@@ -1,21 +1,20 @@
-use mathlib.Core.Path.{sym, ◌∙◌}
-use Rattle.agreement.proofs.ReplyLaws.{first_no, second_says}
+use borrow.Author.Rules.{rules}
 use Rattle.agreement.proofs.needed_agrees.Goals as goal
 
 pub returns-then-code-needed_code : goal.returns-then-code-needed_code
 returns-then-code-needed_code c =
     record {
       code = c.founded_needed-code.result;
-      work = _;
-      promised = rw c.fill.ensures at c.founded_needed-code.ensures;
-      told = second_says (c.if-code-needed_code.true ∙ c.needed_code.ensures) c.work_agrees.ensures;
+      work = c.founded_needed-code.new.work;
+      promised = search rules;
+      told = search rules;
     }
 
-pub returns : goal.returns
-returns c =
+pub returns-else-code-needed_code : goal.returns-else-code-needed_code
+returns-else-code-needed_code c =
     record {
       code = c.founded_needed-code.result;
-      work = _;
-      promised = rw c.fill.ensures at c.founded_needed-code.ensures;
-      told = first_no (λ e. c.if-code-needed_code.false (e ∙ sym c.needed_code.ensures));
+      work = c.founded_needed-code.new.work;
+      promised = search rules;
+      told = search rules;
     }

@@ -1,11 +1,12 @@
+use borrow.Author.Rules.{rules}
 use Rattle.agreement.proofs.prepare_agrees.Goals as goal
 
 pub returns : goal.returns
 returns c =
     record {
       code = c.founded_prepare-code.result;
-      output = _;
-      work = _;
-      promised = rw (c.set_all_wide.ensures, c.fill.ensures) at c.founded_prepare-code.ensures;
-      told = c.outcome_agrees.ensures;
+      output = c.founded_prepare-code.new.output;
+      work = c.founded_prepare-code.new.work;
+      promised = search rules;
+      told = c.agrees.ensures;
     }

@@ -1,5 +1,7 @@
-use Rattle.agreement.proofs.ReplyLaws.{program_says}
+use borrow.Author.Rules.{rules}
+use Rattle.report.specs.Report.{report_text}
 use Rattle.agreement.proofs.program_agrees.Goals as goal
 
 pub returns : goal.returns
-returns c = program_says c.report-n.ensures c.same_bytes.ensures
+unfolding report_text
+returns c = record { place = c.report-n.ensures.place; absorbed = c.report-n.ensures.absorbed; told = search rules }

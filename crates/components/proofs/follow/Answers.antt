@@ -1,15 +1,12 @@
-use mathlib.Core.Path.{◌≡◌}
+use mathlib.Core.Path.{◌≡◌, refl}
 use Prim.Native.Nat.{◌+◌}
 use native.Mathlib.Omega.{arith}
 use Rattle.components.proofs.TurnLaws.{tail_low, head_low, turn_follows, turn_next}
-use Rattle.events.proofs.VertexLaws.{tables_same}
+use Rattle.rows.proofs.VertexLaws.{tables_same}
 use Rattle.components.proofs.follow.Goals as goal
 
 pub overflow_add-tail : goal.overflow_add-tail
 overflow_add-tail g c = let r = c.requires.3 in let t = tail_low c.requires.0 c.requires.1 c.args.n c.args.found c.args.found (c.args.found + 1) r in let l = c.requires.1.laid in let q = c.requires.1.ends in omega arith
-
-pub loop-head-init : goal.loop-head-init
-loop-head-init g c = c.requires.3
 
 pub overflow_add-b : goal.overflow_add-b
 overflow_add-b g c = let r = c.loop-head.invariant in let t = tail_low c.requires.0 c.requires.1 c.args.n c.args.found c.loop-head.head c.loop-head.tail r in let l = c.requires.1.laid in let q = c.requires.1.ends in let z = c.loop-head-test.true in omega arith
@@ -17,8 +14,8 @@ overflow_add-b g c = let r = c.loop-head.invariant in let t = tail_low c.require
 pub at-v-requires : goal.at-v-requires
 at-v-requires g c = let r = c.loop-head.invariant in let t = tail_low c.requires.0 c.requires.1 c.args.n c.args.found c.loop-head.head c.loop-head.tail r in let l = c.requires.1.laid in let q = r.held.long in let z = c.loop-head-test.true in omega arith
 
-pub collect_vertex-tail-requires : goal.collect_vertex-tail-requires
-collect_vertex-tail-requires g c = let r = c.loop-head.invariant in record { accepted = (c.requires.0, rw r.kept.size c.requires.1, head_low c.requires.0 c.requires.1 c.args.n c.args.found c.loop-head.head c.loop-head.tail r c.loop-head-test.true c.at-v.ensures.0, tables_same r.kept.tables r.kept.size c.requires.2); follows = turn_follows c.requires.0 c.requires.1 c.args.n c.args.found c.loop-head.head c.loop-head.tail r c.loop-head-test.true c.at-v.ensures.0 }
+pub along-tail-requires : goal.along-tail-requires
+along-tail-requires g c = let r = c.loop-head.invariant in record { accepted = (c.requires.0, rw r.kept.size c.requires.1, head_low c.requires.0 c.requires.1 c.args.n c.args.found c.loop-head.head c.loop-head.tail r c.loop-head-test.true c.at-v.ensures.0, tables_same r.kept.tables r.kept.size c.requires.2); kept = refl; follows = turn_follows c.requires.0 c.requires.1 c.args.n c.args.found c.loop-head.head c.loop-head.tail r c.loop-head-test.true c.at-v.ensures.0 }
 
 pub overflow_add-head : goal.overflow_add-head
 overflow_add-head g c = let r = c.loop-head.invariant in let t = tail_low c.requires.0 c.requires.1 c.args.n c.args.found c.loop-head.head c.loop-head.tail r in let l = c.requires.1.laid in let q = c.requires.1.ends in let z = c.loop-head-test.true in omega arith
@@ -27,7 +24,7 @@ pub loop-head-smaller : goal.loop-head-smaller
 loop-head-smaller g c = let r = c.loop-head.invariant in let t = tail_low c.requires.0 c.requires.1 c.args.n c.args.found c.loop-head.head c.loop-head.tail r in let z = c.loop-head-test.true in omega arith
 
 pub loop-head-preserved : goal.loop-head-preserved
-loop-head-preserved g c = turn_next c.requires.0 c.requires.1 c.args.n c.args.found c.loop-head.head c.loop-head.tail c.loop-head.invariant c.loop-head-test.true c.at-v.ensures.0 c.collect_vertex-tail.ensures
+loop-head-preserved g c = turn_next c.requires.0 c.requires.1 c.args.n c.args.found c.loop-head.head c.loop-head.tail c.loop-head.invariant c.loop-head-test.true c.at-v.ensures.0 c.along-tail.ensures
 
 pub returns : goal.returns
 returns g c = let r = c.loop-head.invariant in let a = r.ahead in let z = c.loop-head-test.false in let e : c.loop-head.head ≡ c.loop-head.tail = omega arith in rw e at r

@@ -2,7 +2,7 @@ use mathlib.Core.Path.{sym, ◌∙◌}
 use Prim.Native.Nat.{◌+◌, ◌<◌}
 use native.Mathlib.Omega.{arith}
 use lib.ListN.{length-set}
-use Rattle.events.proofs.VertexLaws.{tables_same}
+use Rattle.rows.proofs.VertexLaws.{tables_same}
 use Rattle.words.proofs.NumberLaws.{numbers_length}
 use Rattle.components.proofs.GatherLaws.{root_in, root_room, gather_known, gather_start, small}
 use Rattle.components.proofs.TurnLaws.{search_restart, search_join, gather_end}

@@ -1,4 +1,3 @@
-use Prim.Native.Nat.{◌-◌}
 use Rattle.theory.specs.Words.{theory_of}
 use Rattle.cones.specs.Cones.{Kept}
 use Rattle.cones.specs.Finding.{Begun}
@@ -6,6 +5,3 @@ use Rattle.cones.proofs.begin.Given as goal
 
 abbrev pub invariant-loop-p : goal.invariant-loop-p
 invariant-loop-p g l = Begun g.W.Word.limit (theory_of (g.W.Word.numbers l.graph)) l.cyclic_only l.b (g.W.Word.numbers l.work) l.p l.c × Kept l.b (g.W.Word.numbers l.initial.work) (g.W.Word.numbers l.work)
-
-abbrev pub decreases-loop-p : goal.decreases-loop-p
-decreases-loop-p g l = l.b.producers - l.p

@@ -2,14 +2,8 @@ use native.Mathlib.Omega.{arith}
 use Rattle.theory.specs.Words.{theory_of}
 use Rattle.theory.proofs.ChainLaws.{chain_falls}
 use Rattle.graph.proofs.DecodeLaws.{value_of_lem, next_of_lem, link_in}
-use Rattle.cones.proofs.HeadLaws.{heads_start, head_low, heads_next, heads_end}
+use Rattle.cones.proofs.HeadLaws.{head_low, heads_next, heads_end}
 use Rattle.cones.proofs.cyclic_head.Goals as goal
-
-pub links_from-from-requires : goal.links_from-from-requires
-links_from-from-requires g c = c.requires.accepted.0.size
-
-pub loop-l-init : goal.loop-l-init
-loop-l-init g c = heads_start c.requires.meets_once.0 c.requires.meets_once.1
 
 pub value-a-requires : goal.value-a-requires
 value-a-requires g c = link_in c.links_from-from.ensures c.requires.accepted.0 c.loop-l.invariant.once (λ z. omega arith)

@@ -1,11 +1,7 @@
 use native.Mathlib.Omega.{arith}
-use borrow.Author.Count.{below_none}
 use Rattle.theory.specs.Words.{theory_of}
-use Rattle.cones.proofs.RefuseLaws.{refuse_at, refuse_on, refuse_none}
+use Rattle.cones.proofs.RefuseLaws.{refuse_at, refuse_none}
 use Rattle.cones.proofs.refuse.Goals as goal
-
-pub loop-n-init : goal.loop-n-init
-loop-n-init g c = (omega arith, below_none _)
 
 pub refused_at-requires : goal.refused_at-requires
 unfolding theory_of
@@ -15,9 +11,6 @@ pub returns-then-refused_at : goal.returns-then-refused_at
 unfolding theory_of
 returns-then-refused_at g c = let e = c.requires.accepted.1.nodes in refuse_at c.requires.found c.refused_at.ensures (omega arith) c.if-refused_at.true
 
-pub loop-n-preserved : goal.loop-n-preserved
-loop-n-preserved g c = (omega arith, refuse_on c.requires.found c.refused_at.ensures c.loop-n.invariant.1 c.if-refused_at.false)
-
 pub returns : goal.returns
 unfolding theory_of
-returns g c = let e = c.requires.accepted.1.nodes in refuse_none c.requires.found (λ k l. c.loop-n.invariant.1 k (omega arith))
+returns g c = let e = c.requires.accepted.1.nodes in refuse_none c.requires.found (λ k l. c.loop-n.invariant k (omega arith))

@@ -1,7 +1,7 @@
 use mathlib.Core.Path.{◌≡◌, sym, ◌∙◌}
 use native.Mathlib.Omega.{arith}
 use lib.ListN.{length}
-use Rattle.words.proofs.NumberLaws.{numbers_length, numbers_kept}
+use Rattle.words.proofs.NumberLaws.{numbers_length}
 use Rattle.cycles.proofs.AnswerLaws.{tables_looked, running, answer}
 use borrow.Author.Rules.{rules}
 use Rattle.cycles.proofs.cyclic.Goals as goal

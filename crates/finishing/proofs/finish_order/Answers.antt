@@ -6,17 +6,8 @@ use Rattle.finishing.proofs.finish_order.Goals as goal
 pub loop-root-init : goal.loop-root-init
 loop-root-init g c = (walked_none (walk_start c.requires.0 c.requires.1 c.requires.2), λ v l. absurd (omega arith))
 
-pub overflow_add-b : goal.overflow_add-b
-overflow_add-b g c = let l = c.requires.1.based.laid in let z = c.requires.1.based.ends in omega arith
-
 pub descend-done-requires : goal.descend-done-requires
 descend-done-requires g c = (c.requires.0, c.loop-root.invariant.0.walking, (let e = vertices_are c.requires.1.based in let t = c.loop-root-test.true in omega arith))
-
-pub overflow_add-root : goal.overflow_add-root
-overflow_add-root g c = let l = c.requires.1.based.laid in let z = c.requires.1.based.ends in let t = c.loop-root-test.true in omega arith
-
-pub loop-root-smaller : goal.loop-root-smaller
-loop-root-smaller g c = let t = c.loop-root-test.true in omega arith
 
 pub loop-root-preserved : goal.loop-root-preserved
 loop-root-preserved g c = roots_more (let e = vertices_are c.requires.1.based in let t = c.loop-root-test.true in omega arith) c.loop-root.invariant.0 c.loop-root.invariant.1 c.descend-done.ensures

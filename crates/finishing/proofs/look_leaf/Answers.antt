@@ -8,9 +8,6 @@ use Rattle.finishing.proofs.PlaceLaws.{vertices_few, vertex_low}
 use Rattle.finishing.proofs.PassedLaws.{here, passed_none, is_new, not_new, inputs_done, leaf_ends, leaf_few, leaf_under, leaf_found, leaf_passed}
 use Rattle.finishing.proofs.look_leaf.Goals as goal
 
-pub links_from-from-requires : goal.links_from-from-requires
-links_from-from-requires g c = c.requires.0.size
-
 pub overflow_add-place : goal.overflow_add-place
 overflow_add-place g c =
     let holds = g.met.W.Word.holds in

@@ -10,23 +10,23 @@ use Rattle.founded.proofs.prepare_accepted.Goals as goal
 pub bases_of-b-requires : goal.bases_of-b-requires
 bases_of-b-requires g c = let a = accepted g.W.Word.edition (g.W.Word.numbers c.args.graph.now) c.requires.0 in (a, rw (← numbers_length g.met.W.Word.each c.args.work.now, c.requires.2) (g.met.W.Area.roomy (g.W.Word.numbers c.args.graph.now) a))
 
-pub cyclic_atoms-marks-requires : goal.cyclic_atoms-marks-requires
-cyclic_atoms-marks-requires g c = (accepted g.W.Word.edition (g.W.Word.numbers c.args.graph.now) c.requires.0, rw (numbers_length g.met.W.Word.each c.args.work.now) c.bases_of-b.ensures)
+pub cyclic_atoms-requires : goal.cyclic_atoms-requires
+cyclic_atoms-requires g c = (accepted g.W.Word.edition (g.W.Word.numbers c.args.graph.now) c.requires.0, rw (numbers_length g.met.W.Word.each c.args.work.now) c.bases_of-b.ensures)
 
 pub hand_out-requires : goal.hand_out-requires
 unfolding Marked
 hand_out-requires g c =
-    let k = rw c.in-Done.is at c.cyclic_atoms-marks.ensures in
+    let k = c.in-Ok.ensures in
     (omega (arith, numbers_length g.met.W.Word.each c.args.work.now, k.size, c.bases_of-b.ensures.laid, c.bases_of-b.ensures.ends), mask_fits _ _ c.requires.1 ∙ rw c.bases_of-b.ensures.atoms)
 
-pub returns-in-Done : goal.returns-in-Done
+pub returns-in-Ok : goal.returns-in-Ok
 unfolding Marked
-returns-in-Done g c =
-    let k = rw c.in-Done.is at c.cyclic_atoms-marks.ensures in
+returns-in-Ok g c =
+    let k = c.in-Ok.ensures in
     prepares
-    (done g.W.Word.edition _ _ _ _ c.requires.0 c.requires.1 (work_fits g.W.Word.edition (g.W.Word.numbers c.args.graph.now) _ c.requires.2) (g.W.Word.numbers c.cyclic_atoms-marks.new.work) c.hand_out.ensures.words_after c.bases_of-b.result.cyclic_atoms c.bases_of-b.ensures.atoms k.size k.none k.flags c.hand_out.ensures.output_after)
+    (done g.W.Word.edition _ _ _ _ c.requires.0 c.requires.1 (work_fits g.W.Word.edition (g.W.Word.numbers c.args.graph.now) _ c.requires.2) (g.W.Word.numbers c.cyclic_atoms.new.work) c.hand_out.ensures.words_after c.bases_of-b.result.cyclic_atoms c.bases_of-b.ensures.atoms k.size k.none k.flags c.hand_out.ensures.output_after)
     (λ q. refl)
 
-pub returns-in-Absorbed : goal.returns-in-Absorbed
+pub returns-in-Err : goal.returns-in-Err
 unfolding Marked
-returns-in-Absorbed g c = prepares (absorbed_refused g.W.Word.edition _ _ _ _ c.requires.0 c.requires.1 (work_fits g.W.Word.edition (g.W.Word.numbers c.args.graph.now) _ c.requires.2) _ c.wipe.ensures (rw c.in-Absorbed.is at c.cyclic_atoms-marks.ensures)) (not_zero refl)
+returns-in-Err g c = prepares (absorbed_refused g.W.Word.edition _ _ _ _ c.requires.0 c.requires.1 (work_fits g.W.Word.edition (g.W.Word.numbers c.args.graph.now) _ c.requires.2) _ c.wipe.ensures c.in-Err.ensures) (not_zero refl)

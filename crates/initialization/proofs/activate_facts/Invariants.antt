@@ -1,4 +1,3 @@
-use Prim.Native.Nat.{◌≤◌}
 use Rattle.theory.specs.Words.{theory_of}
 use Rattle.theory.specs.Rows.{flat_map}
 use Rattle.theory.specs.Drive.{Drives}
@@ -7,7 +6,4 @@ use Rattle.initialization.specs.Start.{At}
 use Rattle.initialization.proofs.activate_facts.Given as goal
 
 abbrev pub invariant-loop-i : goal.invariant-loop-i
-invariant-loop-i g l = (l.i ≤ l.facts) × Drives (At l.b) l.b.dependencies (g.W.Word.numbers l.initial.work) 0 (flat_map (theory_of (g.W.Word.numbers l.graph)).heads (fact_rows l.b (g.W.Word.numbers l.initial.work) l.facts)) (g.W.Word.numbers l.work) l.t (flat_map (theory_of (g.W.Word.numbers l.graph)).heads (fact_rows l.b (g.W.Word.numbers l.initial.work) l.i))
-
-abbrev pub decreases-loop-i : goal.decreases-loop-i
-decreases-loop-i g l = l.i
+invariant-loop-i g l = Drives (At l.b) l.b.dependencies (g.W.Word.numbers l.initial.work) 0 (flat_map (theory_of (g.W.Word.numbers l.graph)).heads (fact_rows l.b (g.W.Word.numbers l.initial.work) l.facts)) (g.W.Word.numbers l.work) l.t (flat_map (theory_of (g.W.Word.numbers l.graph)).heads (fact_rows l.b (g.W.Word.numbers l.initial.work) l.i))

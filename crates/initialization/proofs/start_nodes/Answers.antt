@@ -4,7 +4,7 @@ use Prim.Native.Nat.{◌+◌}
 use native.Mathlib.Omega.{arith}
 use Rattle.theory.specs.Words.{bit_at}
 use Rattle.theory.specs.Prefix.{upto}
-use Rattle.theory.proofs.DriveLaws.{drives_none, turn_next, turn_more, turn_done}
+use Rattle.theory.proofs.DriveLaws.{turn_next, turn_more, turn_done}
 use Rattle.area.specs.Views.{as_vertices}
 use Rattle.initialization.specs.Regions.{cone_nodes}
 use Rattle.initialization.specs.Start.{AtNodes}
@@ -12,27 +12,16 @@ use Rattle.initialization.proofs.RegionLaws.{flagged_kept, listed_turn, listed_m
 use Rattle.initialization.proofs.StartLaws.{behind_nodes}
 use Rattle.initialization.proofs.start_nodes.Goals as goal
 
-pub loop-i-init : goal.loop-i-init
-loop-i-init g c = (omega arith, drives_none (AtNodes (g.W.Word.numbers c.args.graph.now) (bit_at c.args.never.now) (bit_at c.args.atom_never.now) c.args.b))
-
-pub overflow_add-b : goal.overflow_add-b
-overflow_add-b g c = let m = c.requires.accepted.1 in omega arith
-
-pub at-requires : goal.at-requires
-at-requires g c = let m = c.requires.accepted.1 in let l = m.laid in let e = c.loop-i.invariant.1.size in let k = c.requires.nodes_le_nodes.0 in omega arith
-
 pub start_node-t-requires : goal.start_node-t-requires
 start_node-t-requires g c =
-    let e = behind_nodes c.requires.follows c.loop-i.invariant.1 in
-    let q = c.loop-i.invariant.0 in record { accepted = (c.requires.accepted.0, rw c.loop-i.invariant.1.size c.requires.accepted.1, flagged_kept c.requires.accepted.1.laid (g.W.Word.numbers c.args.work.now) (g.W.Word.numbers c.loop-i.work) e c.requires.accepted.2); is = (c.requires.nodes_le_nodes.1.are c.at.result).0 (listed_mem c.args.b.body_nodes c.args.b.body_nodes (g.W.Word.numbers c.args.work.now) (g.W.Word.numbers c.loop-i.work) e (omega arith) c.loop-i-test.true c.at.ensures.0 c.args.nodes (omega arith)); follows = turn_next (AtNodes (g.W.Word.numbers c.args.graph.now) (bit_at c.args.never.now) (bit_at c.args.atom_never.now) c.args.b) (as_vertices c.args.b) (λ x. (c.args.b.atoms + x) ∷ []) (λ x xs. refl) c.loop-i.invariant.1 (listed_turn c.args.b.body_nodes c.args.b.body_nodes (g.W.Word.numbers c.args.work.now) (g.W.Word.numbers c.loop-i.work) e (omega arith) c.loop-i-test.true c.at.ensures.0) c.requires.follows }
+    let e = behind_nodes c.requires.follows c.loop-i.invariant in
+    record { accepted = (c.requires.accepted.0, rw c.loop-i.invariant.size c.requires.accepted.1, flagged_kept c.requires.accepted.1.laid (g.W.Word.numbers c.args.work.now) (g.W.Word.numbers c.loop-i.work) e c.requires.accepted.2); is = (c.requires.nodes_le_nodes.1.are c.at.result).0 (listed_mem c.args.b.body_nodes c.args.b.body_nodes (g.W.Word.numbers c.args.work.now) (g.W.Word.numbers c.loop-i.work) e (omega arith) c.loop-i-test.true c.at.ensures.0 c.args.nodes (omega arith)); follows = turn_next (AtNodes (g.W.Word.numbers c.args.graph.now) (bit_at c.args.never.now) (bit_at c.args.atom_never.now) c.args.b) (as_vertices c.args.b) (λ x. (c.args.b.atoms + x) ∷ []) (λ x xs. refl) c.loop-i.invariant (listed_turn c.args.b.body_nodes c.args.b.body_nodes (g.W.Word.numbers c.args.work.now) (g.W.Word.numbers c.loop-i.work) e (omega arith) c.loop-i-test.true c.at.ensures.0) c.requires.follows }
 
 pub loop-i-preserved : goal.loop-i-preserved
 loop-i-preserved g c =
-    let e = behind_nodes c.requires.follows c.loop-i.invariant.1 in (
-      omega arith,
-      turn_more (AtNodes (g.W.Word.numbers c.args.graph.now) (bit_at c.args.never.now) (bit_at c.args.atom_never.now) c.args.b) (as_vertices c.args.b) (λ x. (c.args.b.atoms + x) ∷ []) (λ x xs. refl) c.loop-i.invariant.1 (listed_turn c.args.b.body_nodes c.args.b.body_nodes (g.W.Word.numbers c.args.work.now) (g.W.Word.numbers c.loop-i.work) e (omega arith) c.loop-i-test.true c.at.ensures.0) c.start_node-t.ensures,
-    )
+    let e = behind_nodes c.requires.follows c.loop-i.invariant in
+    turn_more (AtNodes (g.W.Word.numbers c.args.graph.now) (bit_at c.args.never.now) (bit_at c.args.atom_never.now) c.args.b) (as_vertices c.args.b) (λ x. (c.args.b.atoms + x) ∷ []) (λ x xs. refl) c.loop-i.invariant (listed_turn c.args.b.body_nodes c.args.b.body_nodes (g.W.Word.numbers c.args.work.now) (g.W.Word.numbers c.loop-i.work) e (omega arith) c.loop-i-test.true c.at.ensures.0) c.start_node-t.ensures
 
 pub returns : goal.returns
 unfolding upto
-returns g c = let z : c.loop-i.i ≡ 0 = omega arith in turn_done (AtNodes (g.W.Word.numbers c.args.graph.now) (bit_at c.args.never.now) (bit_at c.args.atom_never.now) c.args.b) (as_vertices c.args.b) (λ x. (c.args.b.atoms + x) ∷ []) (λ x xs. refl) c.loop-i.invariant.1 (ap (cone_nodes c.args.b (g.W.Word.numbers c.args.work.now)) z) refl
+returns g c = let z : c.loop-i.i ≡ 0 = omega arith in turn_done (AtNodes (g.W.Word.numbers c.args.graph.now) (bit_at c.args.never.now) (bit_at c.args.atom_never.now) c.args.b) (as_vertices c.args.b) (λ x. (c.args.b.atoms + x) ∷ []) (λ x xs. refl) c.loop-i.invariant (ap (cone_nodes c.args.b (g.W.Word.numbers c.args.work.now)) z) refl

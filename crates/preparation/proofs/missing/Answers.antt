@@ -5,11 +5,11 @@ use Rattle.preparation.proofs.missing.Goals as goal
 pub mark-requires : goal.mark-requires
 mark-requires g c = rw (sym c.requires.1.is) (c.requires)
 
+pub returns-in_err-mark : goal.returns-in_err-mark
+returns-in_err-mark g c = listed_refused _ _ _ _ _ _ c.in_err-mark.field-0.0 c.from_residual.result c.from_residual.ensures.1 (rw (sym c.requires.1.is) at c.in_err-mark.ensures)
+
 pub pass-requires : goal.pass-requires
-pass-requires g c = let k = ready_pass _ _ _ _ (rw (sym c.requires.1.is) at c.mark.ensures) c.in-Done.is in (c.requires.0, rw k.1 c.requires.1, k.0)
+pass-requires g c = let k = ready_pass _ _ _ _ _ (rw (sym c.requires.1.is) at c.in_ok-mark.ensures) in (c.requires.0, rw k.1 c.requires.1, k.0)
 
-pub returns-in-Absorbed : goal.returns-in-Absorbed
-returns-in-Absorbed g c = listed_refused _ _ _ _ _ _ (rw (sym c.requires.1.is) at c.mark.ensures) c.in-Absorbed.is
-
-pub returns-in-Done : goal.returns-in-Done
-returns-in-Done g c = let k = ready_pass _ _ _ _ (rw (sym c.requires.1.is) at c.mark.ensures) c.in-Done.is in listed_done _ _ _ _ _ _ k.1 k.2 c.pass.ensures
+pub returns : goal.returns
+returns g c = let k = ready_pass _ _ _ _ _ (rw (sym c.requires.1.is) at c.in_ok-mark.ensures) in listed_done _ _ _ _ _ _ k.1 k.2 c.pass.ensures

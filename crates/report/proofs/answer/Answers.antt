@@ -1,35 +1,41 @@
 use mathlib.Core.Path.{◌≡◌, sym, ap, ◌∙◌}
 use native.Mathlib.Omega.{arith}
-use Prim.Native.Nat.{ℕ, ◌/◌}
+use Prim.Native.Nat.{ℕ, ◌/◌, ◌<◌}
 use lib.ListN.{length, get_or}
 use lib.Seq.{take-append_seam, length-take-le}
+use Rattle.theory.specs.Accepted.{edition1}
+use Rattle.refusals.proofs.RefusedLaws.{is_error}
+use Rattle.refusals.proofs.PlaceLaws.{graph_place}
+use Rattle.founded.specs.declared.CallError.TheVariants.{Refused}
 use Rattle.mask.specs.Mask.{words_of}
-use borrow.Author.Rules.{rules}
 use Rattle.input.specs.Bytes.{words}
-use Rattle.report.proofs.CallLaws.{says_accepts, atom_words, atom_room, answered_graph, answered_masks, answered_same, answer_row, atom_mask_lem, node_mask_lem}
+use Rattle.report.proofs.CallLaws.{atom_words, atom_room, answered_graph, answered_masks, answered_same, answer_row, atom_mask_lem, node_mask_lem}
 use Rattle.report.proofs.answer.Goals as goal
 
 pub returns-in_err-check : goal.returns-in_err-check
 returns-in_err-check c =
-    answered_graph c.args.masks.now (search rules) c.in_err-check.ensures.says c.check.ensures.other
+    let n : get_or c.args.graph.now 2 0 < 65536 = omega (arith, c.type_inv.graph 2) in
+    let p : get_or c.args.graph.now 3 0 < 65536 = omega (arith, c.type_inv.graph 3) in
+    let k : get_or c.args.graph.now 4 0 < 65536 = omega (arith, c.type_inv.graph 4) in
+    let e = c.in_err-check.field-0.0 in
+    answered_graph c.args.masks.now e (is_error (Refused e) c.from_residual.result c.from_residual.ensures.1) c.in_err-check.ensures (graph_place (omega arith) edition1 c.args.graph.now n p k)
 
 pub bad_masks-requires : goal.bad_masks-requires
-bad_masks-requires c =
-    says_accepts c.args.graph.now c.in_ok-check.ensures.says
+bad_masks-requires c = sym c.in_ok-check.ensures
 
 pub returns-then-bad_masks : goal.returns-then-bad_masks
 returns-then-bad_masks c =
-    answered_masks c.args.masks.now (says_accepts c.args.graph.now c.in_ok-check.ensures.says) (sym c.bad_masks.ensures ∙ c.if-bad_masks.true)
+    answered_masks c.args.masks.now (sym c.in_ok-check.ensures) (sym c.bad_masks.ensures ∙ c.if-bad_masks.true)
 
 pub atom_bytes-requires : goal.atom_bytes-requires
 atom_bytes-requires c =
-    (says_accepts c.args.graph.now c.in_ok-check.ensures.says, sym c.bad_masks.ensures ∙ c.if-bad_masks.false)
+    (sym c.in_ok-check.ensures, sym c.bad_masks.ensures ∙ c.if-bad_masks.false)
 
 pub pass-requires : goal.pass-requires
 pass-requires c =
     let n = c.words-atoms.ensures.count ∙ ap (λ (k : ℕ). k / 8) c.split_at.ensures.front_len in
     record {
-      accepted = says_accepts c.args.graph.now c.in_ok-check.ensures.says;
+      accepted = sym c.in_ok-check.ensures;
       node_words = omega (arith, c.words-nodes.ensures.exact, c.words-nodes.ensures.count, c.atom_bytes.ensures.nodes, c.split_at.ensures.back_len);
       atom_words = sym c.words-atoms.ensures.exact ∙ atom_words c.atom_bytes.ensures n;
       output_words = length-take-le _ _ (omega (arith, atom_room c.atom_bytes.ensures n)) ∙ atom_words c.atom_bytes.ensures n;
@@ -39,7 +45,7 @@ pub returns : goal.returns
 returns c =
     let n = c.words-atoms.ensures.count ∙ ap (λ (k : ℕ). k / 8) c.split_at.ensures.front_len in
     let part : words_of (get_or c.args.graph.now 1 0) ≡ length c.pass.new.output = sym (c.pass.auto.output ∙ length-take-le _ _ (omega (arith, atom_room c.atom_bytes.ensures n)) ∙ atom_words c.atom_bytes.ensures n) in
-    answered_same (λ p. answer_row c.args.graph.now c.args.masks.now p (says_accepts c.args.graph.now c.in_ok-check.ensures.says) (sym c.bad_masks.ensures ∙ c.if-bad_masks.false))
+    answered_same (λ p. answer_row c.args.graph.now c.args.masks.now p (sym c.in_ok-check.ensures) (sym c.bad_masks.ensures ∙ c.if-bad_masks.false))
     (c.words-nodes.ensures.decoded ∙ ap (words 8) c.split_at.ensures.back ∙ node_mask_lem c.atom_bytes.ensures)
     (c.words-atoms.ensures.decoded ∙ ap (words 8) c.split_at.ensures.front ∙ atom_mask_lem c.atom_bytes.ensures)
     (rw part (take-append_seam c.pass.new.output _)) c.pass.ensures

@@ -4,7 +4,7 @@ use lib.ListN.{get_or, take}
 use lib.Seq.{length-take-le}
 use Rattle.mask.specs.Mask.{words_of}
 use Rattle.report.specs.Report.{node_mask, atom_mask}
-use Rattle.report.proofs.CallLaws.{answered_few, print_both, lines_same}
+use Rattle.report.proofs.CallLaws.{answered_few, print_both, print_refused, lines_same}
 use Rattle.report.proofs.report_graph.Goals as goal
 
 pub atoms-atoms-requires : goal.atoms-atoms-requires
@@ -26,3 +26,9 @@ returns-in-Ok c =
     let masks = c.args.masks.now in
     let list = lines_same graph (node_mask graph masks) (atom_mask graph masks) (take c.words.result c.answer.new.output) c.in-Ok.cycle c.atoms-atoms.result c.in-Ok.ensures.cycle c.atoms-atoms.ensures (rw same c.in-Ok.ensures.listed) in
     print_both c.in-Ok.ensures list c.put_lines.ensures
+
+pub put_refusal-requires : goal.put_refusal-requires
+put_refusal-requires c = (c.call_number.ensures.1, rw c.call_place.ensures c.in-Err.ensures.says.err.place_low, omega (arith, c.requires))
+
+pub returns-in-Err : goal.returns-in-Err
+returns-in-Err c = print_refused c.in-Err.ensures c.call_number.ensures.0 c.call_place.ensures c.put_refusal.ensures

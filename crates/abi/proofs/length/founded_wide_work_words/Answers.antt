@@ -1,8 +1,7 @@
-use mathlib.Core.Path.{sym, ◌∙◌, ap}
+use mathlib.Core.Path.{sym}
 use Rattle.theory.specs.Accepted.{edition2}
-use Rattle.refusals.specs.Refusals.{answer_of}
 use Rattle.refusals.proofs.AcceptedLaws.{accepted}
 use Rattle.abi.proofs.length.founded_wide_work_words.Goals as goal
 
 pub area_words-requires : goal.area_words-requires
-area_words-requires c = accepted edition2 c.args.graph.now (sym c.check-checked.ensures ∙ ap answer_of c.in-Accepted.is)
+area_words-requires c = accepted edition2 c.args.graph.now (sym c.in-Ok.ensures)

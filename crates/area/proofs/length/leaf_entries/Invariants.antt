@@ -1,5 +1,4 @@
 use mathlib.Core.Path.{◌≡◌}
-use Prim.Native.Nat.{◌-◌, ◌≤◌}
 use lib.ListN.{length}
 use Rattle.theory.specs.Sets.{sum_below}
 use Rattle.theory.specs.Words.{theory_of}

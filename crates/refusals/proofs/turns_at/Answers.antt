@@ -1,0 +1,6 @@
+use native.Mathlib.Omega.{arith}
+use Rattle.graph.proofs.DecodeLaws.{next_of_lem}
+use Rattle.refusals.proofs.turns_at.Goals as goal
+
+pub returns : goal.returns
+returns g c = rw (← next_of_lem c.links_from.ensures c.args.l c.next.ensures (omega arith), ← c.links.ensures) c.turns.ensures

@@ -1,0 +1,3 @@
+pub mod FlatLaws
+pub mod TurnLaws
+pub mod VertexLaws
