@@ -70,7 +70,7 @@ impl Outcome<'_> {
         output.iter().all(|word| *word == WIDE_SOIL)
     }
 
-    // What the call answered and left.
+    // What the call answered and left. (The place is the code's low half; std has no From for it.)
     fn agrees(&self, code: u32, output: &[u64], work: &[u16]) -> bool
         ensures { (result ≡ true) ↔ Agrees self.now.number self.now.places.now self.now.words.now code output.now work.now }
     {
@@ -107,7 +107,7 @@ pub fn needed_agrees(graph: &[u16], work: &mut [u16], answer: Answer, reply: u16
     code == answer.needed_code(reply) && work_agrees(answer.number, work)
 }
 
-// Preparation and pass differ in the call that they make and in its arguments: over a closure the two lines that they share would be fewer than its clauses.
+// Preparation and pass differ in the call that they make and in its arguments: one function over a closure would have longer clauses than the three lines that they share.
 
 /// Preparation, beside its outcome.
 pub fn prepare_agrees(
