@@ -25,16 +25,16 @@ fn replay_call<R: Read>(
     let mut work = [0u16; 65536];
     match call {
         Call::Check => {
-            scoring::score_check(reader, graph, &mut scores.check)?;
+            scoring::score_check(reader, graph, scores)?;
         }
         Call::Needed => {
-            scoring::score_needed(reader, graph, &mut work, &mut scores.needed)?;
+            scoring::score_needed(reader, graph, &mut work, scores)?;
         }
         Call::Prepare => {
-            scoring::score_prepare(reader, graph, &mut work, &mut scores.prepare)?;
+            scoring::score_prepare(reader, graph, &mut work, scores)?;
         }
         Call::Complete => {
-            scoring::score_complete(reader, graph, &mut work, &mut scores.complete)?;
+            scoring::score_complete(reader, graph, &mut work, scores)?;
         }
     }
     Ok(())
@@ -68,7 +68,7 @@ pub fn replay_record<R: Read>(reader: &mut Reader<R>, scores: &mut Scores) -> Re
     match kind {
         Kind::Graph => replay_graph(reader, scores)?,
         Kind::Run => {
-            scoring::score_run(reader, &mut scores.program)?;
+            scoring::score_run(reader, scores)?;
         }
     }
     Ok(())

@@ -2,7 +2,7 @@
 // `check`, `needed`, `prepare`, `complete` and the program, how many agree and how many differ.
 #![tactic(auto)]
 
-ghost use Rattle.std.specs.Prelude.{◌≡◌, ◌++◌, Some, IfOk, OnErr, codes, decimal};
+ghost use Rattle.std.specs.Prelude.{◌≡◌, ◌++◌, Some, IfOk, OnOk, OnErr, codes, decimal};
 ghost use Rattle.recording.specs.Reading.{Keeps, Tells};
 ghost use Rattle.scoring.specs.Scores.{scored, Scored};
 ghost use Rattle.scoring.specs.Said.{CheckSaid, NeededSaid, PrepareSaid, CompleteSaid, RunSaid};
@@ -57,19 +57,20 @@ pub struct Scores {
 pub fn score_check<R: Read>(
     reader: &mut Reader<R>,
     graph: &[u16],
-    score: &mut Score,
+    scores: &mut Scores,
 ) -> Result<Check, Malformed>
     ensures kept { Keeps reader.old reader.new result }
     ensures told { Tells reader.new result }
-    ensures scored { IfOk result (λ said. Scored (CheckSaid graph.now said) score.old score.new) }
-    ensures unscored { OnErr result (score.new ≡ score.old) }
+    ensures scored { IfOk result (λ said. Scored (CheckSaid graph.now said) scores.old.check scores.new.check) }
+    ensures others { OnOk result (scores.new ≡ record scores.old { check = scores.new.check }) }
+    ensures unscored { OnErr result (scores.new ≡ scores.old) }
 {
     let said = Check::read(reader)?;
     let answer = Answer {
         number: said.number,
         place: said.place,
     };
-    score.count(agreement::check_agrees(graph, answer));
+    scores.check.count(agreement::check_agrees(graph, answer));
     Ok(said)
 }
 
@@ -77,12 +78,13 @@ pub fn score_needed<R: Read>(
     reader: &mut Reader<R>,
     graph: &[u16],
     work: &mut [u16],
-    score: &mut Score,
+    scores: &mut Scores,
 ) -> Result<Needed, Malformed>
     ensures kept { Keeps reader.old reader.new result }
     ensures told { Tells reader.new result }
-    ensures scored { IfOk result (λ said. Scored (NeededSaid graph.now said) score.old score.new) }
-    ensures unscored { OnErr result (score.new ≡ score.old) }
+    ensures scored { IfOk result (λ said. Scored (NeededSaid graph.now said) scores.old.needed scores.new.needed) }
+    ensures others { OnOk result (scores.new ≡ record scores.old { needed = scores.new.needed }) }
+    ensures unscored { OnErr result (scores.new ≡ scores.old) }
 {
     let said = Needed::read(reader, work.len())?;
     let answer = Answer {
@@ -90,7 +92,9 @@ pub fn score_needed<R: Read>(
         place: said.place,
     };
     let work = &mut work[..said.work];
-    score.count(agreement::needed_agrees(graph, work, answer, said.reply));
+    scores
+        .needed
+        .count(agreement::needed_agrees(graph, work, answer, said.reply));
     Ok(said)
 }
 
@@ -111,17 +115,18 @@ pub fn score_prepare<R: Read>(
     reader: &mut Reader<R>,
     graph: &[u16],
     work: &mut [u16],
-    score: &mut Score,
+    scores: &mut Scores,
 ) -> Result<Prepare, Malformed>
     ensures kept { Keeps reader.old reader.new result }
     ensures told { Tells reader.new result }
-    ensures scored { IfOk result (λ said. Scored (PrepareSaid graph.now said) score.old score.new) }
-    ensures unscored { OnErr result (score.new ≡ score.old) }
+    ensures scored { IfOk result (λ said. Scored (PrepareSaid graph.now said) scores.old.prepare scores.new.prepare) }
+    ensures others { OnOk result (scores.new ≡ record scores.old { prepare = scores.new.prepare }) }
+    ensures unscored { OnErr result (scores.new ≡ scores.old) }
 {
     let said = Prepare::read(reader, work.len())?;
     let outcome = outcome(&said);
     let mut output = [0u64; 32];
-    score.count(agreement::prepare_agrees(
+    scores.prepare.count(agreement::prepare_agrees(
         graph,
         &mut output[..outcome.words.len()],
         &mut work[..said.work],
@@ -134,17 +139,18 @@ pub fn score_complete<R: Read>(
     reader: &mut Reader<R>,
     graph: &[u16],
     work: &mut [u16],
-    score: &mut Score,
+    scores: &mut Scores,
 ) -> Result<Complete, Malformed>
     ensures kept { Keeps reader.old reader.new result }
     ensures told { Tells reader.new result }
-    ensures scored { IfOk result (λ said. Scored (CompleteSaid graph.now said) score.old score.new) }
-    ensures unscored { OnErr result (score.new ≡ score.old) }
+    ensures scored { IfOk result (λ said. Scored (CompleteSaid graph.now said) scores.old.complete scores.new.complete) }
+    ensures others { OnOk result (scores.new ≡ record scores.old { complete = scores.new.complete }) }
+    ensures unscored { OnErr result (scores.new ≡ scores.old) }
 {
     let said = Complete::read(reader, work.len())?;
     let outcome = outcome(&said.rest);
     let mut output = [0u64; 32];
-    score.count(agreement::complete_agrees(
+    scores.complete.count(agreement::complete_agrees(
         graph,
         said.never.as_slice(),
         said.atom_never.as_slice(),
@@ -155,13 +161,14 @@ pub fn score_complete<R: Read>(
     Ok(said)
 }
 
-pub fn score_run<R: Read>(reader: &mut Reader<R>, score: &mut Score) -> Result<Run, Malformed>
+pub fn score_run<R: Read>(reader: &mut Reader<R>, scores: &mut Scores) -> Result<Run, Malformed>
     ensures kept { Keeps reader.old reader.new result }
     ensures told { Tells reader.new result }
-    ensures scored { IfOk result (λ said. Scored (RunSaid said) score.old score.new) }
-    ensures unscored { OnErr result (score.new ≡ score.old) }
+    ensures scored { IfOk result (λ said. Scored (RunSaid said) scores.old.program scores.new.program) }
+    ensures others { OnOk result (scores.new ≡ record scores.old { program = scores.new.program }) }
+    ensures unscored { OnErr result (scores.new ≡ scores.old) }
 {
     let said = Run::read(reader)?;
-    score.count(agreement::program_agrees(said.input.as_slice(), said.text.as_slice()));
+    scores.program.count(agreement::program_agrees(said.input.as_slice(), said.text.as_slice()));
     Ok(said)
 }
