@@ -3,13 +3,14 @@
 ghost use Rattle.std.specs.Prelude.{ℕ, ◌<◌, ◌≤◌};
 ghost use Rattle.std.proofs.Common.{arith};
 ghost use Rattle.refusals.specs.Answer.{refuse};
-ghost use Rattle.refusals.specs.Refusals.{refused_as, answer_of};
+ghost use Rattle.refusals.specs.Refusals.{answer_of};
 ghost use Rattle.cycles.specs.Outcome.{outcome_of};
 ghost use Rattle.founded.specs.Answers.{call_of};
 ghost use Rattle.abi.specs.Codes.{Tells, NeedTells, Placed};
 
 use cycles::NeedError;
 use founded::CallError;
+use numbers::Numbered;
 use refusals::Refusal;
 
 pub trait Code: Copy {
@@ -18,6 +19,7 @@ pub trait Code: Copy {
     // A place is below it.
     ghost limit: { ℕ };
 
+    // Number and place are what the header puts in the two halves: a code is made of nothing else.
     fn of(number: usize, place: usize) -> Self
         requires { (number < 65536) × (place < limit) }
         ensures { Tells limit (refuse number place) (value result) };
@@ -25,6 +27,8 @@ pub trait Code: Copy {
     ghost two: { 2 ≤ limit };
 }
 
+// The C interface has a code of 32 bits and one of 64, so there are two impls, and each is the header's formula with its own base. Their `requires` keeps the sum within the code, so
+// the cast is exact; `try_from` would want an error that can't come.
 impl Code for u32 {
     ghost value = { λ code. code };
 
@@ -49,21 +53,14 @@ impl Code for u64 {
     }
 }
 
-fn refusal_code<C: Code>(e: Refusal) -> C
-    requires { (refused_as e).place < C.limit }
-    ensures { Tells C.limit (refused_as e) (C.value result) }
-{
-    C::of(numbers::refusal_number(e), numbers::refusal_place(e))
-}
-
 pub fn checked_code<C: Code>(checked: Result<(), Refusal>) -> C
     requires { (answer_of checked).place < C.limit }
     ensures { Tells C.limit (answer_of checked) (C.value result) }
 {
-    match checked {
-        Ok(()) => C::of(0, 0),
-        Err(e) => refusal_code(e),
-    }
+    C::of(
+        numbers::checked_number(checked),
+        numbers::checked_place(checked),
+    )
 }
 
 pub fn needed_code<C: Code>(needed: Result<bool, NeedError>) -> C
@@ -73,8 +70,10 @@ pub fn needed_code<C: Code>(needed: Result<bool, NeedError>) -> C
     match needed {
         Ok(false) => C::of(0, 0),
         Ok(true) => C::of(0, 1),
-        Err(NeedError::Refused(e)) => refusal_code(e),
-        Err(NeedError::Work) => C::of(11, 0),
+        Err(e) => {
+            let told = Numbered::from(e);
+            C::of(told.number, told.place)
+        }
     }
 }
 
@@ -83,8 +82,8 @@ pub fn call_code<C: Code>(answered: Result<(), CallError>) -> C
     requires { (call_of answered).place < C.limit }
     ensures { Tells C.limit (call_of answered) (C.value result) }
 {
-    match answered {
-        Ok(()) => C::of(0, 0),
-        Err(e) => C::of(numbers::call_number(e), numbers::call_place(e)),
-    }
+    C::of(
+        numbers::completed_number(answered),
+        numbers::completed_place(answered),
+    )
 }

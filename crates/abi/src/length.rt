@@ -5,7 +5,7 @@ ghost use Rattle.abi.specs.Codes.{work_words};
 
 use area::length::Area;
 
-// Its words; 0 for a graph that is refused.
+// Its words; 0 for a graph that is refused. The header says `uint64_t`, and there is no `From<usize>` for u64.
 #[unsafe(no_mangle)]
 pub extern "C" fn founded_wide_work_words(graph: &[u32]) -> u64
     ensures { result ≡ work_words edition2 graph.now }

@@ -1,5 +1,6 @@
 // The calls for C and Rust to link: numbers and slices alone. A slice crosses as a pointer and a length. Here are those on graphs of edition 1; wide.rt has the
-// same four on graphs of edition 2, and length.rt how long a work area edition 2 asks for.
+// same four on graphs of edition 2, and length.rt how long a work area edition 2 asks for. Masks, output and work area are parameters of their own, as in the header.
+// `Tells` is what a code says of the answer that it is made of.
 #![tactic(auto)]
 
 pub mod codes;

@@ -1,4 +1,5 @@
-// The calls on graphs of edition 2.
+// The calls on graphs of edition 2: founded_wide_check, founded_wide_needed, founded_wide_prepare, founded_wide_complete. C has a name for each call and width, and an exported
+// function has no type parameter, so these four stand beside those of lib.rt; all that they do is in the generic functions that both call.
 ghost use Rattle.theory.specs.Accepted.{edition2};
 ghost use Rattle.refusals.specs.Refusals.{graph_answer};
 ghost use Rattle.abi.specs.Codes.{Tells, Needed, PreparedAs, CompletedAs};

@@ -1,4 +1,5 @@
 // The static library that C and Rust link: each export is the call of crate abi that has its name, under the same clauses. A slice crosses as a pointer and a length.
+// The nine exported names stand here again since a crate is a library or a static library, not both.
 #![tactic(auto)]
 
 ghost use Rattle.std.specs.Prelude.{◌≡◌};

@@ -132,23 +132,22 @@ module _ {lim : ℕ} {m : Bool} {rows : ℕ} {all : List Edge} {q : List ℕ} {t
           here (no y) = let c = cursor in let jj = j' in stays (start_of all k + i) (λ d. y (omega arith)) ∙ h.filled e k i low (omega arith)
 
 -- what placing an edge asks
-pub record Placing (lim rows : ℕ) (q : List ℕ) (k x : ℕ) : Type 0 where
-  pub row : k < rows
-  pub entry : x < lim
-  pub fits : get_or q (k + 1) 0 + 1 < lim
+pub record Placeable (lim rows : ℕ) (q : List ℕ) (k x : ℕ) : Type 0 where
+  pub counted : (k + 1 < length q) × (get_or q (k + 1) 0 + 1 < lim)
   pub slot : rows + 1 + get_or q (k + 1) 0 < length q
+  pub entry : x < lim
 
-pub placing : {lim : ℕ} {m : Bool} {rows : ℕ} {q : List ℕ} {t k x : ℕ} → Follows (Building lim m rows) q t (edge k x ∷ []) → Placing lim rows q k x
-placing f =
-    let h = f.held in let l = cursor_low h in let a = h.small in let b = h.room in
-    record { row = h.keyed.0; entry = h.keyed.1; fits = omega arith; slot = omega arith }
+pub placeable : {lim : ℕ} {m : Bool} {rows : ℕ} {q : List ℕ} {t k x : ℕ} → Follows (Building lim m rows) q t (edge k x ∷ []) → Placeable lim rows q k x
+placeable f =
+    let h = f.held in let l = cursor_low h in let r = low h in let a = h.small in let b = h.room in
+    record { counted = (omega arith, omega arith); slot = omega arith; entry = h.keyed.1 }
 
-module _ {lim : ℕ} {m : Bool} {rows : ℕ} {q : List ℕ} {t k x : ℕ} where
-  pub drives_counted : m ≡ false → Drives (Building lim m rows) 0 q t (edge k x ∷ []) (set q (k + 1) (get_or q (k + 1) 0 + 1)) t []
-  drives_counted e = record { frame = refl; size = length-set q (k + 1) _; keeps = λ c more h. build_count h e }
+module _ {lim rows : ℕ} {q : List ℕ} {t k x : ℕ} where
+  pub drives_counted : Drives (Building lim false rows) 0 q t (edge k x ∷ []) (set q (k + 1) (get_or q (k + 1) 0 + 1)) t []
+  drives_counted = record { frame = refl; size = length-set q (k + 1) _; keeps = λ c more h. build_count h refl }
 
-  pub drives_filled : m ≡ true → Drives (Building lim m rows) 0 q t (edge k x ∷ []) (set (set q (k + 1) (get_or q (k + 1) 0 + 1)) (rows + 1 + get_or q (k + 1) 0) x) t []
-  drives_filled e = record { frame = refl; size = length-set (set q (k + 1) _) _ x ∙ length-set q (k + 1) _; keeps = λ c more h. build_fill h e }
+  pub drives_filled : Drives (Building lim true rows) 0 q t (edge k x ∷ []) (set (set q (k + 1) (get_or q (k + 1) 0 + 1)) (rows + 1 + get_or q (k + 1) 0) x) t []
+  drives_filled = record { frame = refl; size = length-set (set q (k + 1) _) _ x ∙ length-set q (k + 1) _; keeps = λ c more h. build_fill h refl }
 
 -- ---- counts become starts
 
@@ -157,8 +156,11 @@ unfolding sum_below
 summed_none q = record { size = refl; sofar = refl; made = λ s h. absurd (omega arith); first = refl; rest = λ i h. refl }
 
 module _ {q₀ q : List ℕ} {r total n : ℕ} (s : Summed q₀ q r total) (en : n ≡ get_or q (r + 1) 0) where
-  pub summed_next : total + n ≡ sum_of q₀ (r + 1)
+  summed_next : total + n ≡ sum_of q₀ (r + 1)
   summed_next = rw add-one (let a = s.sofar in let b = s.rest (r + 1) (omega arith) in let c = sum_step r (λ s. get_or q₀ (s + 1) 0) in omega arith)
+
+  pub summed_low : {rows : ℕ} → r < rows → total + n ≤ sum_of q₀ rows
+  summed_low {rows} h = let e = summed_next in let m = sum_mono (r + 1) rows (λ s. get_or q₀ (s + 1) 0) (omega arith) in omega arith
 
   pub summed_more : r + 1 < length q → Summed q₀ (set q (r + 1) total) (r + 1) (total + n)
   summed_more h = record {

@@ -12,7 +12,7 @@ use Rattle.theory.specs.Sets.{Mem}
 use Rattle.theory.specs.Theory.{Theory, WellFormed, Kind, False, Atom, And, Or, Opaque, Absorbed, joins}
 use Rattle.theory.specs.Words.{node_at, chain, theory_of}
 use Rattle.theory.specs.Accepted.{Edition, Accepted}
-use Rattle.theory.specs.Rows.{Edge, tagged, stream, body_keys, atom_keys, leaf_keys, atom_nodes, parents, by_head, by_body}
+use Rattle.theory.specs.Rows.{Edge, edge, tagged, stream, body_keys, atom_keys, leaf_keys, atom_nodes, parents, by_head, by_body}
 use Rattle.theory.proofs.SetLaws.{bool_cases, clash}
 use Rattle.theory.proofs.RowLaws.{rows_length, atom_nodes_few, parents_few, by_head_few, by_body_few}
 use Rattle.graph.specs.Kinds.{takes_operand}
@@ -24,50 +24,58 @@ use Rattle.adjacency.specs.declared.Table.TheVariants.{AtomNodes, Parents, ByHea
 use Rattle.adjacency.specs.Tables.{rows_of, items_of, keys_of, edges_of, base_of, next_of}
 use Rattle.adjacency.specs.Building.{Keyed, start_of}
 
--- ---- the keys of an item
+-- ---- the edges of item i of table t, by what was read of it: r is whether its kind takes an operand, and x is the row that it names
 
-module _ (ws : List ℕ) where
-  pub atom_keys_lem : (n : ℕ) → takes_operand ((theory_of ws).kind n) ≡ true → atom_keys (theory_of ws) ((theory_of ws).kind n) n ≡ get_or ws (node_at n + 1) 0 ∷ []
-  unfolding atom_keys takes_operand
-  atom_keys_lem n q = go ((theory_of ws).kind n) q ∙ ap (λ (x : ℕ). x ∷ []) (the_operand ws n)
-    where
-      go : (k : Kind) → takes_operand k ≡ true → atom_keys (theory_of ws) k n ≡ (theory_of ws).operand n ∷ []
-      go False q = clash refl (sym q)
-      go Atom q = refl
-      go And q = clash refl (sym q)
-      go Or q = clash refl (sym q)
-      go Opaque q = clash refl (sym q)
-      go Absorbed q = clash refl (sym q)
+module _ (ws : List ℕ) {t : Table} (i : ℕ) where
+  module _ (e : t ≡ AtomNodes) {k : Kind} {r : Bool} (ek : k ≡ (theory_of ws).kind i) (er : r ≡ takes_operand k) where
+    pub atom_edges : {x : ℕ} → r ≡ true → x ≡ get_or ws (node_at i + 1) 0 → tagged i (keys_of (theory_of ws) t i) ≡ edge x i ∷ []
+    unfolding atom_keys takes_operand
+    atom_edges q ex = rw (e, sym ek, ex) (ap (tagged i) (go k (sym er ∙ q) ∙ ap (λ (x : ℕ). x ∷ []) (the_operand ws i)))
+      where
+        go : (k : Kind) → takes_operand k ≡ true → atom_keys (theory_of ws) k i ≡ (theory_of ws).operand i ∷ []
+        go False q = clash refl (sym q)
+        go Atom q = refl
+        go And q = clash refl (sym q)
+        go Or q = clash refl (sym q)
+        go Opaque q = clash refl (sym q)
+        go Absorbed q = clash refl (sym q)
 
-  pub atom_no_keys : (n : ℕ) → takes_operand ((theory_of ws).kind n) ≡ false → atom_keys (theory_of ws) ((theory_of ws).kind n) n ≡ []
-  unfolding atom_keys takes_operand
-  atom_no_keys n q = go ((theory_of ws).kind n) q
-    where
-      go : (k : Kind) → takes_operand k ≡ false → atom_keys (theory_of ws) k n ≡ []
-      go False q = refl
-      go Atom q = clash refl q
-      go And q = refl
-      go Or q = refl
-      go Opaque q = refl
-      go Absorbed q = refl
+    pub atom_no_edges : r ≡ false → tagged i (keys_of (theory_of ws) t i) ≡ []
+    unfolding atom_keys takes_operand
+    atom_no_edges q = rw (e, sym ek) (ap (tagged i) (go k (sym er ∙ q)))
+      where
+        go : (k : Kind) → takes_operand k ≡ false → atom_keys (theory_of ws) k i ≡ []
+        go False q = refl
+        go Atom q = clash refl q
+        go And q = refl
+        go Or q = refl
+        go Opaque q = refl
+        go Absorbed q = refl
 
   -- a node that takes no links has none
-  pub leaf_keys_lem : {ed : Edition} → Accepted ed ws → (n : ℕ) → n < get_or ws 2 0 → leaf_keys (theory_of ws) ((theory_of ws).kind n) n ≡ chain ws (get_or ws (node_at n + 2) 0)
-  unfolding leaf_keys
-  leaf_keys_lem acc n h = go (bool_cases (joins ((theory_of ws).kind n)))
+  pub leaf_edges : {ed : Edition} {l : ℕ} → t ≡ Parents → Accepted ed ws → i < items_of (theory_of ws) t → l ≡ get_or ws (node_at i + 2) 0 → tagged i (keys_of (theory_of ws) t i) ≡ tagged i (chain ws l)
+  unfolding leaf_keys theory_of
+  leaf_edges e acc h el = rw (e, el) (ap (tagged i) (go (bool_cases (joins ((theory_of ws).kind i)))))
     where
-      go : (joins ((theory_of ws).kind n) ≡ true) ⊎ (joins ((theory_of ws).kind n) ≡ false) → cond (joins ((theory_of ws).kind n)) ((theory_of ws).leaves n) [] ≡ chain ws (get_or ws (node_at n + 2) 0)
-      go (inl e) = ap (λ (b : Bool). cond b ((theory_of ws).leaves n) []) e ∙ the_leaves ws n
-      go (inr e) = ap (λ (b : Bool). cond b ((theory_of ws).leaves n) []) e ∙ sym (acc.leafless n h e) ∙ the_leaves ws n
+      go : (joins ((theory_of ws).kind i) ≡ true) ⊎ (joins ((theory_of ws).kind i) ≡ false) → cond (joins ((theory_of ws).kind i)) ((theory_of ws).leaves i) [] ≡ chain ws (get_or ws (node_at i + 2) 0)
+      go (inl q) = ap (λ (b : Bool). cond b ((theory_of ws).leaves i) []) q ∙ the_leaves ws i
+      go (inr q) = ap (λ (b : Bool). cond b ((theory_of ws).leaves i) []) q ∙ sym (acc.leafless i (rw e at h) q) ∙ the_leaves ws i
 
-pub body_keys_lem : (k : ℕ) → 0 < k → body_keys k ≡ (k - 1) ∷ []
-unfolding body_keys
-body_keys_lem zero h = elim h [ ]
-body_keys_lem (suc k) h = let e : k ≡ suc k - 1 = omega arith in ap (λ (x : ℕ). x ∷ []) e
+  pub head_edges : t ≡ ByHead → tagged i (keys_of (theory_of ws) t i) ≡ tagged i ((theory_of ws).heads i)
+  head_edges e = rw e refl
 
-pub body_no_keys : (k : ℕ) → k ≡ 0 → body_keys k ≡ []
-unfolding body_keys
-body_no_keys k e = ap body_keys e
+  module _ (e : t ≡ ByBody) where
+    pub body_edges : {x : ℕ} → (0 < (theory_of ws).body i) × (x ≡ (theory_of ws).body i - 1) → tagged i (keys_of (theory_of ws) t i) ≡ edge x i ∷ []
+    unfolding body_keys
+    body_edges {x} some = rw e (go ((theory_of ws).body i) some.0 some.1)
+      where
+        go : (k : ℕ) → 0 < k → x ≡ k - 1 → tagged i (body_keys k) ≡ edge x i ∷ []
+        go zero h q = elim h [ ]
+        go (suc k) h q = let y : k ≡ x = omega arith in ap (λ (x : ℕ). edge x i ∷ []) y
+
+    pub body_no_edges : (0 < (theory_of ws).body i → ⊥) → tagged i (keys_of (theory_of ws) t i) ≡ []
+    unfolding body_keys
+    body_no_edges none = rw e (let z : (theory_of ws).body i ≡ 0 = omega arith in ap (λ (k : ℕ). tagged i (body_keys k)) z)
 
 -- ---- the stream, at item i of n
 
@@ -130,10 +138,10 @@ starts_few edges rows n h = let e = rows_length rows edges in omega arith
 
 -- ---- the table fits its part
 
-pub part_fits : {ws : List ℕ} {words : ℕ} {b : Bases} → Based ws words b → (t : Table)
-    → (base_of b t + (rows_of (theory_of ws) t + 1 + length (edges_of (theory_of ws) t)) ≤ next_of b t) × (next_of b t ≤ words)
+pub part_fits : {ws : List ℕ} {words from to : ℕ} {b : Bases} → Based ws words b → (t : Table) → (from ≡ base_of b t) × (to ≡ next_of b t)
+    → (from + (rows_of (theory_of ws) t + 1 + length (edges_of (theory_of ws) t)) ≤ to) × (to ≤ words)
 unfolding theory_of atom_nodes parents by_head by_body
-part_fits {ws} {words} {b} x t = go t
+part_fits {ws} {words} {from} {to} {b} x t e = rw (e.0, e.1) (go t)
   where
     go : (t : Table) → (base_of b t + (rows_of (theory_of ws) t + 1 + length (edges_of (theory_of ws) t)) ≤ next_of b t) × (next_of b t ≤ words)
     go AtomNodes = let a = x.atoms in let n = x.nodes in let k = atom_nodes_few (theory_of ws) in let l = x.laid in let e = x.ends in (omega arith, omega arith)

@@ -2,7 +2,7 @@
 -- (`placed`), and stays while the words up to its end do (`kept`).
 use mathlib.Core.Path.{◌≡◌, sym, ap, ap₂, ◌∙◌}
 use mathlib.Core.Bool.{true, false}
-use mathlib.Core.List.{List, [], ◌++◌}
+use mathlib.Core.List.{List, [], ◌++◌, map}
 use Prim.Native.Nat.{ℕ, ◌+◌, ◌-◌, ◌≤◌, ◌<◌}
 use native.Mathlib.Omega.{arith}
 use native.Mathlib.Nat.{zero-add}
@@ -11,6 +11,8 @@ use lib.Seq.{slice}
 use Rattle.theory.specs.Theory.{Theory}
 use Rattle.theory.specs.Words.{theory_of}
 use Rattle.theory.specs.Accepted.{Edition, Accepted}
+use Rattle.words.specs.Words.{Holds}
+use Rattle.words.proofs.NumberLaws.{numbers_front, numbers_all}
 use Rattle.theory.specs.Rows.{Edge, entries}
 use Rattle.theory.specs.Drive.{Follows, Drives}
 use Rattle.theory.proofs.RowLaws.{atom_nodes_few, parents_few, by_head_few, by_body_few}
@@ -24,68 +26,64 @@ use Rattle.adjacency.specs.Building.{Keyed, start_of, Building, sum_of, Summed}
 use Rattle.adjacency.proofs.BuildLaws.{count_start, counted, fill_start, built}
 use Rattle.adjacency.proofs.KeyLaws.{edges_keyed, starts_few}
 
--- p is the cleared front of the part
-pub record Start (lim : ℕ) (th : Theory) (t : Table) (rows : ℕ) (part p : List ℕ) : Type 0 where
+-- q is the part with its first rows + 1 words cleared
+pub record Start (lim : ℕ) (th : Theory) (t : Table) (rows : ℕ) (part q : List ℕ) : Type 0 where
   pub rows_are : rows ≡ rows_of th t
   pub keyed : Keyed lim (rows_of th t) (edges_of th t)
   pub few : length (edges_of th t) < lim
-  pub zeros : p ≡ replicate (length (take (rows + 1) part)) 0
+  pub size : length q ≡ length part
+  pub zeros : (i : ℕ) → i < rows + 1 → get_or q i 0 ≡ 0
   pub room : rows_of th t + 1 + length (edges_of th t) ≤ length part
 
-pub start : {ed : Edition} {ws : List ℕ} {lim rows : ℕ} {part p : List ℕ} → Accepted ed ws → ed.counts < lim → ed.entries < lim → (t : Table) → rows ≡ rows_of (theory_of ws) t
-    → p ≡ replicate (length (take (rows + 1) part)) 0 → rows_of (theory_of ws) t + 1 + length (edges_of (theory_of ws) t) ≤ length part → Start lim (theory_of ws) t rows part p
-unfolding theory_of Rattle.theory.specs.Rows.atom_nodes Rattle.theory.specs.Rows.parents Rattle.theory.specs.Rows.by_head Rattle.theory.specs.Rows.by_body
-start {ed} {ws} {lim} acc c n t er ep room = record {
-  rows_are = er;
-  keyed = edges_keyed (theory_of ws) acc.well_formed lim t (items t);
-  few = few t;
-  zeros = ep;
-  room = room;
-}
-  where
-    items : (t : Table) → items_of (theory_of ws) t ≤ lim
-    items AtomNodes = let k = acc.nodes_few in omega arith
-    items Parents = let k = acc.nodes_few in omega arith
-    items ByHead = let k = acc.producers_few in omega arith
-    items ByBody = let k = acc.producers_few in omega arith
+module _ {A : Type 0} {number : A → ℕ} {numbers : List A → List ℕ} (each : (xs : List A) → numbers xs ≡ map number xs) where
+  pub start : {ed : Edition} {ws : List ℕ} {lim rows : ℕ} {part front : List A} → Holds ed lim → Accepted ed ws → (t : Table) → rows ≡ rows_of (theory_of ws) t
+      → numbers front ≡ replicate (length (numbers (take (rows + 1) part))) 0 → rows_of (theory_of ws) t + 1 + length (edges_of (theory_of ws) t) ≤ length (numbers part)
+      → Start lim (theory_of ws) t rows (numbers part) (numbers (front ++ drop (rows + 1) part))
+  unfolding theory_of Rattle.theory.specs.Rows.atom_nodes Rattle.theory.specs.Rows.parents Rattle.theory.specs.Rows.by_head Rattle.theory.specs.Rows.by_body
+  start {ed} {ws} {lim} {rows} {part} {front} holds acc t er cleared room = record {
+    rows_are = er;
+    keyed = edges_keyed (theory_of ws) acc.well_formed lim t (items t);
+    few = few t;
+    size = rw (numbers_front each (rows + 1) part front, front_is) (simp (length-append, length-replicate, length-take, length-drop) (omega arith));
+    zeros = λ i l. rw (numbers_front each (rows + 1) part front, front_is) (get_or-append _ (drop (rows + 1) (numbers part)) 0 i (rw (length-replicate, long) l) ∙ get_or-replicate _ i 0 0 (rw long l));
+    room = room;
+  }
+    where
+      long : length (take (rows + 1) (numbers part)) ≡ rows + 1
+      long = simp length-take (omega arith)
 
-    few : (t : Table) → length (edges_of (theory_of ws) t) < lim
-    few AtomNodes = let k = acc.nodes_few in let e = atom_nodes_few (theory_of ws) in omega arith
-    few Parents = let k = acc.leaf_total in let e = parents_few (theory_of ws) in omega arith
-    few ByHead = let k = acc.head_total in let e = by_head_few (theory_of ws) in omega arith
-    few ByBody = let k = acc.producers_few in let e = by_body_few (theory_of ws) in omega arith
+      front_is : numbers front ≡ replicate (length (take (rows + 1) (numbers part))) 0
+      front_is = numbers_all each (rows + 1) 0 part cleared
 
-module _ {lim : ℕ} {th : Theory} {t : Table} {rows : ℕ} {part p : List ℕ} (x : Start lim th t rows part p) where
+      items : (t : Table) → items_of (theory_of ws) t ≤ lim
+      items AtomNodes = let k = acc.nodes_few in omega arith
+      items Parents = let k = acc.nodes_few in omega arith
+      items ByHead = let k = acc.producers_few in omega arith
+      items ByBody = let k = acc.producers_few in omega arith
+
+      few : (t : Table) → length (edges_of (theory_of ws) t) < lim
+      few AtomNodes = let k = acc.nodes_few in let e = atom_nodes_few (theory_of ws) in omega arith
+      few Parents = let k = acc.leaf_total in let e = parents_few (theory_of ws) in omega arith
+      few ByHead = let k = acc.head_total in let e = by_head_few (theory_of ws) in omega arith
+      few ByBody = let k = acc.producers_few in let e = by_body_few (theory_of ws) in omega arith
+
+module _ {lim : ℕ} {th : Theory} {t : Table} {rows : ℕ} {part q₀ : List ℕ} (x : Start lim th t rows part q₀) where
   keyed : Keyed lim rows (edges_of th t)
   keyed = rw x.rows_are x.keyed
 
   small : start_of (edges_of th t) rows < lim
   small = let a = starts_few (edges_of th t) rows (length (edges_of th t)) (omega arith) in let b = x.few in omega arith
 
-  size : length (p ++ drop (rows + 1) part) ≡ length part
-  size = rw x.zeros (simp (length-append, length-replicate, length-take, length-drop) (omega arith))
-
-  counting : Building lim false rows (edges_of th t) (p ++ drop (rows + 1) part) 0 (edges_of th t)
-  counting = count_start keyed small (p ++ drop (rows + 1) part) room zero
+  counting : Building lim false rows (edges_of th t) q₀ 0 (edges_of th t)
+  counting = count_start keyed small q₀ room x.zeros
     where
-      front : length (take (rows + 1) part) ≡ rows + 1
-      front = let e = x.rows_are in let r = x.room in simp length-take (omega arith)
+      room : rows + 1 + start_of (edges_of th t) rows ≤ length q₀
+      room = let a = starts_few (edges_of th t) rows (length (edges_of th t)) (omega arith) in let b = x.room in let e = x.rows_are in let s = x.size in omega arith
 
-      room : rows + 1 + start_of (edges_of th t) rows ≤ length (p ++ drop (rows + 1) part)
-      room = let a = starts_few (edges_of th t) rows (length (edges_of th t)) (omega arith) in let b = x.room in let e = x.rows_are in let s = size in omega arith
-
-      long : length p ≡ rows + 1
-      long = ap length x.zeros ∙ length-replicate (length (take (rows + 1) part)) 0 ∙ front
-
-      zero : (i : ℕ) → i < rows + 1 → get_or (p ++ drop (rows + 1) part) i 0 ≡ 0
-      zero i l =
-          get_or-append p (drop (rows + 1) part) 0 i (let k = long in omega arith)
-          ∙ ap (λ (l : List ℕ). get_or l i 0) x.zeros ∙ get_or-replicate (length (take (rows + 1) part)) i 0 0 (let k = front in omega arith)
-
-  pub to_count : Follows (Building lim false rows) (p ++ drop (rows + 1) part) 0 (edges_of th t)
+  pub to_count : Follows (Building lim false rows) q₀ 0 (edges_of th t)
   to_count = follows_all (Building lim false rows) counting
 
-  module _ {q : List ℕ} (d : Drives (Building lim false rows) 0 (p ++ drop (rows + 1) part) 0 (edges_of th t) q 0 []) where
+  module _ {q : List ℕ} (d : Drives (Building lim false rows) 0 q₀ 0 (edges_of th t) q 0 []) where
     after : Building lim false rows (edges_of th t) q 0 []
     after = drives_all (Building lim false rows) counting d
 
@@ -100,7 +98,7 @@ module _ {lim : ℕ} {th : Theory} {t : Table} {rows : ℕ} {part p : List ℕ} 
       to_fill = follows_all (Building lim true rows) filling
 
       pub filled : {q'' : List ℕ} → Drives (Building lim true rows) 0 q' 0 (edges_of th t) q'' 0 [] → Tabled (length part) q'' 0 (rows_of th t) (edges_of th t)
-      filled {q''} f = let e : length q'' ≡ length part = f.size ∙ s.size ∙ d.size ∙ size in rw (x.rows_are, e) at (built (drives_all (Building lim true rows) filling f))
+      filled {q''} f = let e : length q'' ≡ length part = f.size ∙ s.size ∙ d.size ∙ x.size in rw (x.rows_are, e) at (built (drives_all (Building lim true rows) filling f))
 
 -- ---- in the whole
 
@@ -140,15 +138,15 @@ placed {rows} {edges} a e w p h k size x = record {
         let c : get_or p (0 + r) 0 ≡ get_or p r 0 = ap (λ (n : ℕ). get_or p n 0) (zero-add r) in
         omega arith
 
-pub stood : {th : Theory} {b : Bases} {t : Table} {from to : ℕ} (w p : List ℕ) → from ≡ base_of b t → to ≡ next_of b t
-    → (base_of b t + (rows_of th t + 1 + length (edges_of th t)) ≤ next_of b t) × (next_of b t ≤ length w) → length p ≡ to - from
+pub stood : {th : Theory} {b : Bases} {t : Table} {from to : ℕ} (w p : List ℕ) → (from ≡ base_of b t) × (to ≡ next_of b t)
+    → (from + (rows_of th t + 1 + length (edges_of th t)) ≤ to) × (to ≤ length w) → length p ≡ to - from
     → Tabled (length (take (to - from) (drop from w))) p 0 (rows_of th t) (edges_of th t) → Built th b t w (take from w ++ (p ++ drop (to - from) (drop from w)))
-stood {th} {b} {t} {from} {to} w p ef et fits size x =
+stood {th} {b} {t} {from} {to} w p e fits size x =
     let h : from ≤ to = omega arith in
-    let k : to ≤ length w = omega arith in
+    let k : to ≤ length w = fits.1 in
     let m : length (take (to - from) (drop from w)) ≡ length p = simp (length-take, length-drop) (omega arith) in
     record {
       size = part_length from to w p h k size;
-      before = rw (sym ef) (part_before from to w p h k size);
-      table = rw (sym ef, sym et) (placed from to w p h k size (rw m at x));
+      before = rw (sym e.0) (part_before from to w p h k size);
+      table = rw (sym e.0, sym e.1) (placed from to w p h k size (rw m at x));
     }

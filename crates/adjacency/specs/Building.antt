@@ -29,8 +29,9 @@ pub record Around : Type 0 where
   pub all : List Edge
   pub after : List Edge
 
-abbrev pub Placing : (lim : ℕ) (filling : Bool) (rows item : ℕ) → Around → List ℕ → ℕ → List ℕ → Type 0
-Placing lim filling rows item c q t keys = Building lim filling rows c.all q 0 (tagged item keys ++ c.after)
+-- building: what is kept, over all the edges and those to come
+abbrev pub Placing : (building : List Edge → List ℕ → ℕ → List Edge → Type 0) (item : ℕ) → Around → List ℕ → ℕ → List ℕ → Type 0
+Placing building item c q t keys = building c.all q 0 (tagged item keys ++ c.after)
 
 -- the counts of the rows below r
 abbrev pub sum_of : List ℕ → ℕ → ℕ

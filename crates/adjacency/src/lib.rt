@@ -2,10 +2,10 @@
 // stood there before has no effect.
 #![tactic(auto)]
 
-ghost use Rattle.std.specs.Prelude.{◌≡◌, [], ◌∷◌, ◌+◌, ◌<◌, ◌≤◌, length};
+ghost use Rattle.std.specs.Prelude.{◌≡◌, true, false, List, [], ◌∷◌, ℕ, ◌+◌, ◌<◌, ◌≤◌, length};
 ghost use Rattle.theory.specs.Words.{theory_of};
 ghost use Rattle.theory.specs.Accepted.{Accepted};
-ghost use Rattle.theory.specs.Rows.{edge, tagged, body_keys, atom_keys};
+ghost use Rattle.theory.specs.Rows.{Edge, edge, tagged};
 ghost use Rattle.theory.specs.Drive.{Follows, Drives};
 ghost use Rattle.area.specs.Layout.{Based};
 ghost use Rattle.adjacency.specs.Tables.{keys_of, items_of, rows_of, edges_of, base_of, next_of, start_at, Tabled, Built};
@@ -13,6 +13,7 @@ ghost use Rattle.adjacency.specs.Building.{Building, Around, Placing, Summed, su
 
 use area::Bases;
 use chains::Step;
+use std::ops::Range;
 use words::Word;
 
 // Nodes per atom, parents per node, producers per head, producers per body.
@@ -24,128 +25,154 @@ pub enum Table {
     ByBody,
 }
 
-// An edge: while counting, one more in its row; while filling, the row's next entry.
-fn place<W: Word>(part: &mut [W], rows: usize, filling: bool, row: usize, entry: usize)
-    requires { Follows (Building W.limit filling rows) (W.numbers part.old) 0 (edge row entry ∷ []) }
-    ensures { Drives (Building W.limit filling rows) 0 (W.numbers part.old) 0 (edge row entry ∷ []) (W.numbers part.new) 0 [] }
-{
-    let cursor = counters::add(part, row + 1, 1);
-    if filling {
-        words::put(part, rows + 1 + cursor, entry);
-        return;
+// What is done with an edge: it is counted, or filled in.
+trait Place<W: Word>: Copy {
+    // All the edges, the words that they are placed in, and those that are to come.
+    ghost building: { Self → List Edge → List ℕ → ℕ → List Edge → Type 0 };
+
+    // `Follows` and `Drives`, here and in each walk above, tie the words before to those after, for one list: facts of a change, which no struct holds.
+    fn place(self, part: &mut [W], row: usize, entry: usize)
+        requires { Follows (building self) (W.numbers part.old) 0 (edge row entry ∷ []) }
+        ensures { Drives (building self) 0 (W.numbers part.old) 0 (edge row entry ∷ []) (W.numbers part.new) 0 [] };
+}
+
+// One more in its row.
+#[derive(Clone, Copy)]
+struct Count {
+    rows: usize,
+}
+
+impl<W: Word> Place<W> for Count {
+    ghost building = { λ count. Building W.limit false count.rows };
+
+    fn place(self, part: &mut [W], row: usize, entry: usize) {
+        counters::add(part, row + 1, 1);
+    }
+}
+
+// The row's next entry.
+#[derive(Clone, Copy)]
+struct Fill {
+    rows: usize,
+}
+
+impl<W: Word> Place<W> for Fill {
+    ghost building = { λ fill. Building W.limit true fill.rows };
+
+    fn place(self, part: &mut [W], row: usize, entry: usize) {
+        let cursor = counters::add(part, row + 1, 1);
+        words::put(part, self.rows + 1 + cursor, entry);
     }
 }
 
 // An item's edges, along a chain of the rows that they are in.
 #[derive(Clone, Copy)]
-struct Item {
-    rows: usize,
-    filling: bool,
+struct Item<P> {
+    place: P,
     index: usize,
 }
 
-impl<W: Word> Step<W> for Item {
+impl<W: Word, P: Place<W>> Step<W> for Item<P> {
     ghost Context = { Around };
 
-    ghost held = { λ it. Placing W.limit it.filling it.rows it.index };
+    ghost held = { λ it. Placing (P.building it.place) it.index };
 
     ghost kept = { λ it. 0 };
 
     fn step(self, part: &mut [W], row: usize, tail: usize) -> usize {
-        place(part, self.rows, self.filling, row, self.index);
+        self.place.place(part, row, self.index);
         tail
     }
 }
 
-// A node's edge to the atom that it names.
-fn place_atom<W: Word>(graph: &[W], part: &mut [W], rows: usize, filling: bool, n: usize)
-    requires accepted { Accepted W.edition (W.numbers graph.now) × (n < (theory_of (W.numbers graph.now)).nodes) }
-    requires follows { Follows (Building W.limit filling rows) (W.numbers part.old) 0 (tagged n (atom_keys (theory_of (W.numbers graph.now)) ((theory_of (W.numbers graph.now)).kind n) n)) }
-    ensures { Drives (Building W.limit filling rows) 0 (W.numbers part.old) 0 (tagged n (atom_keys (theory_of (W.numbers graph.now)) ((theory_of (W.numbers graph.now)).kind n) n)) (W.numbers part.new) 0 [] }
-{
-    if graph::takes_operand(graph::kind(graph, n)) {
-        place(part, rows, filling, graph::operand(graph, n), n);
-        return;
-    }
-}
-
-// A producer's edge to its body.
-fn place_body<W: Word>(graph: &[W], part: &mut [W], rows: usize, filling: bool, p: usize)
-    requires accepted { Accepted W.edition (W.numbers graph.now) × (p < (theory_of (W.numbers graph.now)).producers) }
-    requires follows { Follows (Building W.limit filling rows) (W.numbers part.old) 0 (tagged p (body_keys ((theory_of (W.numbers graph.now)).body p))) }
-    ensures { Drives (Building W.limit filling rows) 0 (W.numbers part.old) 0 (tagged p (body_keys ((theory_of (W.numbers graph.now)).body p))) (W.numbers part.new) 0 [] }
-{
-    let body = graph::body(graph, p);
-    if body > 0 {
-        place(part, rows, filling, body - 1, p);
-        return;
-    }
-}
-
-// An item's edges.
-fn place_item<W: Word>(
-    graph: &[W],
-    part: &mut [W],
+// How many rows a table has, and how many items have edges in it.
+#[derive(Clone, Copy)]
+struct Size {
     rows: usize,
-    filling: bool,
-    table: Table,
-    i: usize,
-)
-    requires accepted { Accepted W.edition (W.numbers graph.now) × (i < items_of (theory_of (W.numbers graph.now)) table) }
-    requires follows { Follows (Building W.limit filling rows) (W.numbers part.old) 0 (tagged i (keys_of (theory_of (W.numbers graph.now)) table i)) }
-    ensures { Drives (Building W.limit filling rows) 0 (W.numbers part.old) 0 (tagged i (keys_of (theory_of (W.numbers graph.now)) table i)) (W.numbers part.new) 0 [] }
-{
-    let step = Item {
-        rows,
-        filling,
-        index: i,
-    };
-    match table {
-        Table::AtomNodes => place_atom(graph, part, rows, filling, i),
-        Table::Parents => {
-            chains::along(graph, part, step, graph::first_leaf(graph, i), 0);
+    items: usize,
+}
+
+// What the four tables have of their own, in a `match` each: as a trait these would be four impls of three functions, and no shorter.
+impl Table {
+    #[tactic(auto, unfolding(theory::specs::Words::theory_of))]
+    fn size<W: Word>(self, graph: &[W]) -> Size
+        requires { Accepted W.edition (W.numbers graph.now) }
+        ensures rows { result.rows ≡ rows_of (theory_of (W.numbers graph.now)) self }
+        ensures items { result.items ≡ items_of (theory_of (W.numbers graph.now)) self }
+    {
+        let atoms = graph::atoms(graph);
+        let nodes = graph::nodes(graph);
+        let producers = graph::producers(graph);
+        let (rows, items) = match self {
+            Table::AtomNodes => (atoms, nodes),
+            Table::Parents => (nodes, nodes),
+            Table::ByHead => (atoms, producers),
+            Table::ByBody => (nodes, producers),
+        };
+        Size { rows, items }
+    }
+
+    // Its part of the work area: from where it begins to where the next region does.
+    fn span(self, b: Bases) -> Range<usize>
+        ensures { (result.start ≡ base_of b self) × (result.end ≡ next_of b self) }
+    {
+        match self {
+            Table::AtomNodes => b.atom_nodes..b.parents,
+            Table::Parents => b.parents..b.by_head,
+            Table::ByHead => b.by_head..b.by_body,
+            Table::ByBody => b.by_body..b.states,
         }
-        Table::ByHead => {
-            chains::heads(graph, part, step, i, 0);
+    }
+
+    // An item's edges.
+    #[tactic(auto, unfolding(theory::specs::Words::theory_of))]
+    fn place_item<W: Word, P: Place<W>>(self, graph: &[W], part: &mut [W], place: P, i: usize)
+        requires accepted { Accepted W.edition (W.numbers graph.now) × (i < items_of (theory_of (W.numbers graph.now)) self) }
+        requires follows { Follows (P.building place) (W.numbers part.old) 0 (tagged i (keys_of (theory_of (W.numbers graph.now)) self i)) }
+        ensures { Drives (P.building place) 0 (W.numbers part.old) 0 (tagged i (keys_of (theory_of (W.numbers graph.now)) self i)) (W.numbers part.new) 0 [] }
+    {
+        let step = Item { place, index: i };
+        match self {
+            Table::AtomNodes => {
+                if graph::node_kind(graph, i).takes_operand() {
+                    place.place(part, graph::operand(graph, i), i);
+                }
+            }
+            Table::Parents => {
+                chains::along(graph, part, step, graph::first_leaf(graph, i), 0);
+            }
+            Table::ByHead => {
+                chains::heads(graph, part, step, i, 0);
+            }
+            Table::ByBody => {
+                if let Some(node) = graph::body_node(graph, i) {
+                    place.place(part, node, i);
+                }
+            }
         }
-        Table::ByBody => place_body(graph, part, rows, filling, i),
     }
-}
 
-// How many items a table has.
-fn items<W: Word>(graph: &[W], table: Table) -> usize
-    requires { Accepted W.edition (W.numbers graph.now) }
-    ensures { result ≡ items_of (theory_of (W.numbers graph.now)) table }
-{
-    match table {
-        Table::AtomNodes => graph::nodes(graph),
-        Table::Parents => graph::nodes(graph),
-        Table::ByHead => graph::producers(graph),
-        Table::ByBody => graph::producers(graph),
+    // Every edge, item by item.
+    fn place_all<W: Word, P: Place<W>>(self, graph: &[W], part: &mut [W], place: P)
+        requires accepted { Accepted W.edition (W.numbers graph.now) }
+        requires follows { Follows (P.building place) (W.numbers part.old) 0 (edges_of (theory_of (W.numbers graph.now)) self) }
+        ensures { Drives (P.building place) 0 (W.numbers part.old) 0 (edges_of (theory_of (W.numbers graph.now)) self) (W.numbers part.new) 0 [] }
+    {
+        for i in 0..self.size(graph).items {
+            self.place_item(graph, part, place, i);
+        }
     }
-}
 
-// How many rows.
-fn rows_in<W: Word>(graph: &[W], table: Table) -> usize
-    requires { Accepted W.edition (W.numbers graph.now) }
-    ensures { result ≡ rows_of (theory_of (W.numbers graph.now)) table }
-{
-    match table {
-        Table::AtomNodes => graph::atoms(graph),
-        Table::Parents => graph::nodes(graph),
-        Table::ByHead => graph::atoms(graph),
-        Table::ByBody => graph::nodes(graph),
-    }
-}
-
-// Every edge, item by item.
-fn place_all<W: Word>(graph: &[W], part: &mut [W], rows: usize, filling: bool, table: Table)
-    requires accepted { Accepted W.edition (W.numbers graph.now) }
-    requires follows { Follows (Building W.limit filling rows) (W.numbers part.old) 0 (edges_of (theory_of (W.numbers graph.now)) table) }
-    ensures { Drives (Building W.limit filling rows) 0 (W.numbers part.old) 0 (edges_of (theory_of (W.numbers graph.now)) table) (W.numbers part.new) 0 [] }
-{
-    for i in 0..items(graph, table) {
-        place_item(graph, part, rows, filling, table, i);
+    // The table in the lent part: row r is the entries of the edges in row r, in stream order.
+    fn build<W: Word>(self, graph: &[W], part: &mut [W])
+        requires { Accepted W.edition (W.numbers graph.now) × (rows_of (theory_of (W.numbers graph.now)) self + 1 + length (edges_of (theory_of (W.numbers graph.now)) self) ≤ length (W.numbers part.old)) }
+        ensures { Tabled (length (W.numbers part.old)) (W.numbers part.new) 0 (rows_of (theory_of (W.numbers graph.now)) self) (edges_of (theory_of (W.numbers graph.now)) self) }
+    {
+        let rows = self.size(graph).rows;
+        area::clear(&mut part[..rows + 1]);
+        self.place_all(graph, part, Count { rows });
+        sum(part, rows);
+        self.place_all(graph, part, Fill { rows });
     }
 }
 
@@ -162,52 +189,16 @@ fn sum<W: Word>(part: &mut [W], rows: usize)
     }
 }
 
-// A table in the lent part: row r is the entries of the edges in row r, in stream order.
-fn build<W: Word>(graph: &[W], part: &mut [W], table: Table)
-    requires { Accepted W.edition (W.numbers graph.now) × (rows_of (theory_of (W.numbers graph.now)) table + 1 + length (edges_of (theory_of (W.numbers graph.now)) table) ≤ length (W.numbers part.old)) }
-    ensures { Tabled (length (W.numbers part.old)) (W.numbers part.new) 0 (rows_of (theory_of (W.numbers graph.now)) table) (edges_of (theory_of (W.numbers graph.now)) table) }
-{
-    let rows = rows_in(graph, table);
-    area::clear(&mut part[..rows + 1]);
-    place_all(graph, part, rows, false, table);
-    sum(part, rows);
-    place_all(graph, part, rows, true, table);
-}
-
-// Where a table begins, and where the next region does.
-fn base(b: Bases, table: Table) -> usize
-    ensures { result ≡ base_of b table }
-{
-    match table {
-        Table::AtomNodes => b.atom_nodes,
-        Table::Parents => b.parents,
-        Table::ByHead => b.by_head,
-        Table::ByBody => b.by_body,
-    }
-}
-
-fn next(b: Bases, table: Table) -> usize
-    ensures { result ≡ next_of b table }
-{
-    match table {
-        Table::AtomNodes => b.parents,
-        Table::Parents => b.by_head,
-        Table::ByHead => b.by_body,
-        Table::ByBody => b.states,
-    }
-}
-
 // A table in its part of the work area.
 pub fn build_in<W: Word>(graph: &[W], work: &mut [W], b: Bases, table: Table)
     requires { Accepted W.edition (W.numbers graph.now) × Based (W.numbers graph.now) (length (W.numbers work.old)) b }
     ensures { Built (theory_of (W.numbers graph.now)) b table (W.numbers work.old) (W.numbers work.new) }
 {
-    let from = base(b, table);
-    let to = next(b, table);
-    build(graph, &mut work[from..to], table);
+    table.build(graph, &mut work[table.span(b)]);
 }
 
-// Where the entries of row r begin, in the table of so many rows at base; they end where those of the next row begin.
+// Where the entries of row r begin, in the table of so many rows at base; they end where those of the next row begin. The table is
+// found by its base and is no slice of its own, since what is done at an entry of a row writes in the same work area.
 pub fn row_start<W: Word>(work: &[W], base: usize, rows: usize, r: usize) -> usize
     requires { (r ≤ rows) × (base + (rows + 1) ≤ length (W.numbers work.now)) }
     ensures { result ≡ start_at (W.numbers work.now) base rows r }

@@ -1,7 +1,9 @@
 // How long the work area is (refusal 11): in edition 1 the same for every graph; in edition 2 it depends on the graph's counts and on its entries, which are counted here.
-ghost use Rattle.std.specs.Prelude.{◌≡◌};
-ghost use Rattle.theory.specs.Words.{theory_of};
-ghost use Rattle.theory.specs.Accepted.{Accepted, leaf_entries, head_entries, area_of};
+ghost use Rattle.std.specs.Prelude.{◌≡◌, ◌≤◌, ◌<◌, length};
+ghost use Rattle.theory.specs.Sets.{sum_below};
+ghost use Rattle.theory.specs.Words.{chain, theory_of};
+ghost use Rattle.theory.specs.Links.{MeetsOnce};
+ghost use Rattle.theory.specs.Accepted.{Accepted, area_of};
 ghost use Rattle.area.specs.Layout.{Roomy};
 ghost use Rattle.area.specs.Rooms.{edition1_roomy, edition2_roomy};
 ghost use Rattle.std.specs.Prelude.{List, ℕ, refl};
@@ -24,24 +26,16 @@ impl Area for u16 {
     }
 }
 
-fn leaf_entries<W: Word>(graph: &[W]) -> usize
-    requires { Accepted W.edition (W.numbers graph.now) }
-    ensures { result ≡ leaf_entries (theory_of (W.numbers graph.now)) }
+// The entries of `count` chains, of which each begins at the link that the closure answers.
+fn entries_of<W: Word, F: Fn(usize) -> usize>(graph: &[W], count: usize, first: F) -> usize
+    requires accepted { Accepted W.edition (W.numbers graph.now) × (count ≤ W.edition.counts) }
+    requires callable { (n : ℕ) → n < count → F.pre first n }
+    requires chains { (n l : ℕ) → n < count → F.post first n l → MeetsOnce (W.numbers graph.now) l }
+    ensures { (link : ℕ → ℕ) → ((n l : ℕ) → n < count → F.post first n l → l ≡ link n) → result ≡ sum_below count (λ n. length (chain (W.numbers graph.now) (link n))) }
 {
     let mut total: usize = 0;
-    for n in 0..graph::nodes(graph) {
-        total += graph::entries(graph, graph::first_leaf(graph, n));
-    }
-    total
-}
-
-fn head_entries<W: Word>(graph: &[W]) -> usize
-    requires { Accepted W.edition (W.numbers graph.now) }
-    ensures { result ≡ head_entries (theory_of (W.numbers graph.now)) }
-{
-    let mut total: usize = 0;
-    for p in 0..graph::producers(graph) {
-        total += graph::entries(graph, graph::first_head(graph, p));
+    for n in 0..count {
+        total += graph::entries(graph, first(n));
     }
     total
 }
@@ -51,6 +45,12 @@ impl Area for u32 {
 
     fn area_words(graph: &[u32]) -> usize {
         let size = graph::atoms(graph) + graph::nodes(graph) + graph::producers(graph);
-        16 * (size + 1) + 4 * (leaf_entries(graph) + head_entries(graph))
+        let leaves = entries_of(graph, graph::nodes(graph), |n| graph::first_leaf(graph, n));
+        let heads = entries_of(
+            graph,
+            graph::producers(graph),
+            |p| graph::first_head(graph, p),
+        );
+        16 * (size + 1) + 4 * (leaves + heads)
     }
 }

@@ -3,19 +3,19 @@
 
 pub mod length;
 
-ghost use Rattle.std.specs.Prelude.{◌≡◌, true, ◌<◌, ◌≤◌, ◌^◌, length, set, replicate};
+ghost use Rattle.std.specs.Prelude.{◌≡◌, true, ◌<◌, ◌^◌, length, replicate};
 ghost use Rattle.theory.specs.Accepted.{Accepted};
 ghost use Rattle.area.specs.Layout.{words_for, LaidOut, Roomy, Based};
 
 pub fn clear<W: Word>(words: &mut [W])
-    ensures { (W.numbers words.new) ≡ replicate (length (W.numbers words.old)) 0 }
+    ensures { W.numbers words.new ≡ replicate (length (W.numbers words.old)) 0 }
 {
     words::fill(words, W::of(0));
 }
 
-// Whether all words are 0; there is no branch on any of them.
+// Whether all words are 0, with no branch on any of them (an iterator's `all` has one at each).
 fn blank<W: Word>(words: &[W]) -> bool
-    ensures { result ≡ true → (W.numbers words.now) ≡ replicate (length (W.numbers words.now)) 0 }
+    ensures { result ≡ true → W.numbers words.now ≡ replicate (length (W.numbers words.now)) 0 }
 {
     let mut all = W::of(0);
     for word in words {
@@ -25,7 +25,7 @@ fn blank<W: Word>(words: &[W]) -> bool
 }
 
 fn wipe_block<W: Word>(words: &mut [W])
-    ensures { (W.numbers words.new) ≡ replicate (length (W.numbers words.old)) 0 }
+    ensures { W.numbers words.new ≡ replicate (length (W.numbers words.old)) 0 }
 {
     if blank(words) {
         return;
@@ -39,7 +39,7 @@ const BLOCK: usize = 512;
 // Clears what may be 0 already in most places: a block that is all 0 is read and not written. The work area is larger than the cache next to the
 // processor, and there reading takes less time than writing. (After a loop over `chunks_mut` a proof knows the length alone, so the blocks are counted.)
 pub fn wipe<W: Word>(words: &mut [W])
-    ensures { (W.numbers words.new) ≡ replicate (length (W.numbers words.old)) 0 }
+    ensures { W.numbers words.new ≡ replicate (length (W.numbers words.old)) 0 }
 {
     let blocks = words.len() / BLOCK;
     for block in 0..blocks {
@@ -53,7 +53,11 @@ pub fn wipe<W: Word>(words: &mut [W])
 use words::Word;
 
 // A graph's counts, at most so many leaf entries and head entries, and where each region begins. A vertex has a pair of words: its mark (`states`)
-// and its count (`dependencies`).
+// and its count (`dependencies`). Indices, since all regions are parts of one lent area.
+//
+// Why no struct holds graph, work area and bases, with `Accepted`, `Based`, `Laid` and the like as ghost fields (tried in crates graph and events): what it holds is read as
+// `lent.now.graph.now` behind a reference, and as `lent.entry.graph.now` in the `ensures` of one by value, so that each clause gets longer to save one (516 signs for 514 at
+// `events::settle_in`); a view hides the facts from callers; a `&mut` in it needs a clause more, that it is the same one; and what a store changes has to be said anew.
 #[derive(Clone, Copy)]
 pub struct Bases {
     pub atoms: usize,

@@ -9,7 +9,8 @@ ghost use Rattle.theory.specs.Drive.{Follows, Drives};
 
 use words::Word;
 
-// What is done at an entry, on words that are lent: `tail` of what is found stand on a list before it, and so many as it returns after it.
+// What is done at an entry, on words that are lent. The list of what is found has `tail` entries before the step, and as many as it answers after it.
+// It is a region of the lent work area, as there is no heap, and its length goes from call to call as `tail`: in `step`, `along` and `heads`, and in rows and events.
 pub trait Step<W: Word>: Copy {
     ghost Context: { Type 0 };
 
@@ -23,8 +24,8 @@ pub trait Step<W: Word>: Copy {
         ensures { Drives (held self) (kept self) (W.numbers work.old) tail (v ∷ []) (W.numbers work.new) result [] };
 }
 
-// Along the chain from `first` on. The next link is read before the step, so that the processor need not wait for it. A `while`: an iterator of entries would hide
-// that order, and carry the graph and the fact that the chain ends, for this loop alone.
+// Along the chain from `first` on. The next link is read with the entry, before the step, so that the processor need not wait for it. `MeetsOnce`, that no link comes twice, is a
+// clause of its own, since each of the functions with it has `first` from elsewhere.
 pub fn along<W: Word, S: Step<W>>(
     graph: &[W],
     work: &mut [W],
@@ -36,12 +37,8 @@ pub fn along<W: Word, S: Step<W>>(
     requires follows { Follows (S.held step) (W.numbers work.old) tail (chain (W.numbers graph.now) first) }
     ensures { Drives (S.held step) (S.kept step) (W.numbers work.old) tail (chain (W.numbers graph.now) first) (W.numbers work.new) result [] }
 {
-    let from = graph::links_from(graph);
     let mut t = tail;
-    let mut l = first;
-    while l > 0 {
-        let v = graph::value(graph, from, l);
-        l = graph::next(graph, from, l);
+    for v in graph::follow(graph, first) {
         t = step.step(work, v, t);
     }
     t

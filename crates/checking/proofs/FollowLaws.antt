@@ -1,9 +1,9 @@
--- A walk over the chains of all places, testing and counting each entry: what holds between two chains and along one, a link at a time. And one chain
+-- A walk over the chains of all places, testing and counting each entry: what holds between two chains and along one, an entry at a time. And one chain
 -- followed for at most K links (`toward-..`).
 use mathlib.Core.Path.{◌≡◌, refl, sym, ap, ◌∙◌, subst}
 use mathlib.Core.Bool.{true, false, not, ◌||◌}
-use mathlib.Core.List.{List}
-use Prim.Native.Nat.{ℕ, zero, suc, ◌+◌, ◌*◌, ◌≤◌, ◌<◌}
+use mathlib.Core.List.{List, [], ◌∷◌}
+use Prim.Native.Nat.{ℕ, ◌+◌, ◌≤◌, ◌<◌}
 use native.Mathlib.Numerals.{add-one}
 use native.Mathlib.Omega.{arith}
 use native.Mathlib.Decide.{ℕ_discrete}
@@ -11,9 +11,9 @@ use borrow.Author.Tests.{le-leb, lt-leb, eq-eqb, ne_eqb}
 use lib.Dec.{leb, eqb}
 use lib.ListN.{length, get_or}
 use Rattle.theory.specs.Sets.{any, sum_below}
-use Rattle.theory.specs.Words.{value_of, next_of, chain}
-use Rattle.theory.specs.Links.{link_after, MeetsOnce, comes_back}
-use Rattle.theory.proofs.ChainLaws.{once_next, chain_end, chain_step, after_step, after_none, ends_clear, runs_back}
+use Rattle.theory.specs.Words.{next_of, chain}
+use Rattle.theory.specs.Links.{link_after, comes_back}
+use Rattle.theory.proofs.ChainLaws.{after_step, after_none, ends_clear, runs_back}
 use Rattle.refusals.specs.Search.{Clear, First}
 use Rattle.checking.specs.Walked.{bad_place, entries_of}
 use Rattle.refusals.proofs.SearchLaws.{clear_none, clear_more, first_found, first_none}
@@ -24,10 +24,10 @@ module _ (ws : List ℕ) (limit first : ℕ → ℕ) where
     pub clear : Clear (bad_place ws limit first) 0 n
     pub counted : entries ≡ sum_below n (entries_of ws first)
 
-  -- on the way along the chain of place n, at link l
-  pub record Along (n entries l : ℕ) : Type 0 where
-    pub same : any (leb (limit n)) (chain ws l) ≡ bad_place ws limit first n
-    pub counted : entries + length (chain ws l) ≡ entries_of ws first n + sum_below n (entries_of ws first)
+  -- on the way along the chain of place n, with the entries `rest` to come
+  pub record Along (n entries : ℕ) (rest : List ℕ) : Type 0 where
+    pub same : any (leb (limit n)) rest ≡ bad_place ws limit first n
+    pub counted : entries + length rest ≡ entries_of ws first n + sum_below n (entries_of ws first)
 
 module _ {ws : List ℕ} {limit first : ℕ → ℕ} where
   pub between_none : Between ws limit first 0 0
@@ -39,33 +39,24 @@ module _ {ws : List ℕ} {limit first : ℕ → ℕ} where
   between_all {n} {entries} b e =
       subst (λ (m : ℕ). (entries ≡ sum_below m (entries_of ws first)) × First (bad_place ws limit first) 0 m m) e (b.counted, first_none b.clear refl)
 
-  pub along_first : {n entries l : ℕ} → Between ws limit first n entries → l ≡ first n → Along ws limit first n entries l
+  pub along_first : {n entries l : ℕ} → Between ws limit first n entries → l ≡ first n → Along ws limit first n entries (chain ws l)
   along_first b e = rw e (record { same = refl; counted = let c = b.counted in omega arith })
 
-  module _ {n entries l : ℕ} (a : Along ws limit first n entries l) where
-    pub along_end : {before : ℕ} → Between ws limit first n before → l ≡ 0 → Between ws limit first (n + 1) entries
-    unfolding sum_below any
-    along_end b z =
-        let e = ap (chain ws) z ∙ chain_end ws in
-        let h = ap length e in
-        let c = a.counted in
-        record { clear = clear_more b.clear (sym a.same ∙ ap (any (leb (limit n))) e); counted = rw add-one (omega arith) }
+  pub along_end : {n entries before : ℕ} → Along ws limit first n entries [] → Between ws limit first n before → Between ws limit first (n + 1) entries
+  unfolding sum_below any
+  along_end a b = let c = a.counted in record { clear = clear_more b.clear (sym a.same); counted = rw add-one (omega arith) }
 
-    module _ (once : MeetsOnce ws l) (z : l ≡ 0 → ⊥) where
-      -- v is what the link has
-      step : {v : ℕ} → v ≡ value_of ws l → bad_place ws limit first n ≡ leb (limit n) v || any (leb (limit n)) (chain ws (next_of ws l))
-      unfolding any
-      step e = sym a.same ∙ ap (any (leb (limit n))) (chain_step ws once z) ∙ rw e refl
+  -- v is the next entry
+  module _ {n entries v : ℕ} {rest : List ℕ} (a : Along ws limit first n entries (v ∷ rest)) where
+    step : bad_place ws limit first n ≡ leb (limit n) v || any (leb (limit n)) rest
+    unfolding any
+    step = sym a.same
 
-      pub along_wrong : {v before end : ℕ} → v ≡ value_of ws l → limit n ≤ v → Between ws limit first n before → n < end
-          → (n < end) × First (bad_place ws limit first) 0 end n
-      along_wrong e h b k = (k, first_found b.clear k (step e ∙ rw (le-leb _ _ h) refl))
+    pub along_wrong : {before end : ℕ} → limit n ≤ v → Between ws limit first n before → n < end → (n < end) × First (bad_place ws limit first) 0 end n
+    along_wrong h b k = (k, first_found b.clear k (step ∙ rw (le-leb _ _ h) refl))
 
-      pub along_next : {v : ℕ} → v ≡ value_of ws l → v < limit n → Along ws limit first n (entries + 1) (next_of ws l)
-      along_next e h =
-          let t = ap length (chain_step ws once z) in
-          let c = a.counted in
-          record { same = sym (step e ∙ rw (lt-leb _ _ h) refl); counted = omega arith }
+    pub along_next : v < limit n → Along ws limit first n (entries + 1) rest
+    along_next h = let c = a.counted in record { same = sym (step ∙ rw (lt-leb _ _ h) refl); counted = omega arith }
 
 -- ---- one chain, followed for at most K links
 

@@ -1,1 +1,2 @@
 pub mod FollowLaws
+pub mod TableLaws

@@ -2,9 +2,8 @@
 use Rattle.std.specs.Prelude.{◌≡◌, Bool, List, ℕ, ◌<◌, leb, length, Result, MatchResult}
 use Rattle.theory.specs.Sets.{any}
 use Rattle.theory.specs.Words.{chain}
-use Rattle.refusals.specs.Search.{First}
 use Rattle.refusals.specs.declared.Refusal.{Refusal}
-use Rattle.refusals.specs.Answer.{Answer, accept}
+use Rattle.refusals.specs.Answer.{Answer, accept, refuse}
 use Rattle.refusals.specs.Refusals.{refused_as}
 
 -- the place's chain begins at link `first n`, and an entry of it is wrong unless it is below `limit n`
@@ -18,9 +17,9 @@ entries_of ws first n = length (chain ws (first n))
 abbrev pub Gives : (ℕ → ℕ → Type 0) → ℕ → (ℕ → ℕ) → Type 0
 Gives answers end f = (n m : ℕ) → n < end → answers n m → m ≡ f n
 
--- the first place below `end` that is bad, or the total where there is none
-abbrev pub Walked : (ℕ → Bool) → (end total : ℕ) → Result ℕ ℕ → Type 0
-Walked bad end total r = MatchResult r (λ t. (t ≡ total) × First bad 0 end end) (λ n. (n < end) × First bad 0 end n)
+-- what a closure makes of a place is the refusal of that number there
+abbrev pub Makes : (ℕ → Refusal → Type 0) → ℕ → Type 0
+Makes made number = (i : ℕ) (e : Refusal) → made i e → refused_as e ≡ refuse number i
 
 -- what a row answers that counts entries: its refusal, or where it passes the total
 abbrev pub Counted : Answer → ℕ → Result ℕ Refusal → Type 0

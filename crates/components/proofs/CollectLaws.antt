@@ -2,9 +2,9 @@
 use mathlib.Core.Path.{◌≡◌, refl, sym, ap, ◌∙◌}
 use mathlib.Core.Logic.{◌≢◌}
 use mathlib.Core.List.{List, [], ◌∷◌}
-use Prim.Native.Nat.{ℕ, suc, ◌+◌, ◌-◌, ◌≤◌, ◌<◌}
+use Prim.Native.Nat.{ℕ, suc, ◌+◌, ◌-◌, ◌<◌}
 use native.Mathlib.Omega.{arith}
-use lib.ListN.{length, get_or, drop, length-set, length-append}
+use lib.ListN.{get_or, drop, length-set, length-append}
 use lib.Seq.{get_or-drop}
 use Rattle.theory.specs.Prefix.{between}
 use Rattle.theory.proofs.PrefixLaws.{upto_length, upto_same, between_length, between_same}
@@ -90,7 +90,3 @@ module _ {lim : ℕ} {b : Bases} {w : List ℕ} {t v : ℕ} where
 
   pub collect_met : get_or w (mark_of b v) 0 ≢ 2 → Drives (Gathering lim b) b.states w t (v ∷ []) w t []
   collect_met n = record { frame = refl; size = refl; keeps = λ c more h. held_met h n }
-
--- the words are as long as the tables
-pub tables_long : {lim : ℕ} {b : Bases} {w : List ℕ} {t : ℕ} {l : List ℕ} → Follows (Gathering lim b) w t l → b.states ≤ length w
-tables_long f = let k = f.held.laid in let q = f.held.long in omega arith

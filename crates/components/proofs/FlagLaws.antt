@@ -199,9 +199,6 @@ module _ {ws : List ℕ} {b : Bases} {w₀ : List ℕ} (based : Based ws (length
   pub alone_end : to ≤ from + 1 → Sweeping ws b w₀ w₀ n to
   alone_end h = record { size = refl; tables = refl; state = p.state; flags = flag_alone based p h }
 
-  pub flagging_start : Flagging ws b w₀ w₀ from to from
-  flagging_start = record { low = omega arith; high = p.after; size = refl; frame = refl; flags = p.flags }
-
   module _ {w : List ℕ} (i : ℕ) (f : Flagging ws b w₀ w from to i) where
     pub flagging_end : to ≤ i → Sweeping ws b w₀ w n to
     flagging_end h =
@@ -243,7 +240,3 @@ module _ {ws : List ℕ} {b : Bases} {w₀ : List ℕ} (based : Based ws (length
           go : Dec (get_or w (b.queue + i) 0 < b.atoms) → Flagging ws b w₀ (flag_member b w i) from to (i + 1)
           go (yes l) = rw (lt-ltb (get_or w (b.queue + i) 0) b.atoms l) (flagging_atom more refl l)
           go (no l) = let k : b.atoms ≤ get_or w (b.queue + i) 0 = omega arith in rw (le-ltb (get_or w (b.queue + i) 0) b.atoms k) (flagging_node refl k)
-
--- a search and its flags, since the beginning
-pub sweep_on : {ws : List ℕ} {b : Bases} {w₀ w w₁ w₂ : List ℕ} {n m found tail : ℕ} → Sweeping ws b w₀ w n found → Gathered ws b w w₁ m found tail → Sweeping ws b w₁ w₂ m tail → Sweeping ws b w₀ w₂ m tail
-sweep_on s g f = record { size = f.size ∙ g.kept.size ∙ s.size; tables = f.tables ∙ g.kept.tables ∙ s.tables; state = f.state; flags = f.flags }

@@ -68,7 +68,7 @@ module _ {ws : List ℕ} {ed : Edition} (acc : Accepted ed ws) {b : Bases} {word
             rw (preds_cone (theory_of ws) y g) (mem_occ u (preds (theory_of ws) everyone y) (omega arith)),
       )
 
-  module _ {w : List ℕ} (n found : ℕ) (s : Classifying ws b w (n + 1) found) where
+  module _ {w : List ℕ} (n : ℕ) {found : ℕ} (s : Classifying ws b w (n + 1) found) where
     cons : ordered b w (n + 1) ≡ get_or w (b.body_nodes + n) 0 ∷ ordered b w n
     unfolding upto
     cons = rw (add-one n, get_or-drop b.body_nodes w n 0)
@@ -97,14 +97,14 @@ module _ {ws : List ℕ} {ed : Edition} (acc : Accepted ed ws) {b : Bases} {word
         three (inl e) = absurd (k e)
         three (inr e) = e
 
-    module _ {lim : ℕ} (long : b.end ≤ length w) (small : b.atoms + b.nodes < lim) (two : get_or w (mark_of b (get_or w (b.body_nodes + n) 0)) 0 ≡ 2) where
+    module _ (two : get_or w (mark_of b (get_or w (b.body_nodes + n) 0)) 0 ≡ 2) where
       -- there is room on the queue
       pub root_room : found < b.atoms + b.nodes
       root_room =
           let r = met_room (b.atoms + b.nodes) (cone_preds (theory_of ws)) (in_graph (theory_of ws)) within (get_or w (b.body_nodes + n) 0) (queued b w found) swept.once swept.low root_in.1 (root_new (b.atoms + b.nodes) _ _ within swept root_in.1 two) in
           omega (arith, upto_length found (drop b.queue w))
 
-      module _ (x : ℕ) (ex : x ≡ get_or w (b.body_nodes + n) 0) where
+      module _ {lim : ℕ} (long : b.end ≤ length w) (small : b.atoms + b.nodes < lim) (x : ℕ) (ex : x ≡ get_or w (b.body_nodes + n) 0) where
         low : x < b.atoms + b.nodes
         low = rw ex root_in.1
 

@@ -1,10 +1,11 @@
 -- A search of the second walk goes on, member by member, and ends with a component.
 use mathlib.Core.Path.{◌≡◌, refl, sym, ap, ap₂, ◌∙◌}
+use mathlib.Core.Logic.{◌≢◌}
 use mathlib.Core.List.Memᴰ
 use mathlib.Core.List.{List, [], ◌∷◌, ◌++◌}
 use Prim.Native.Nat.{ℕ, suc, ◌+◌, ◌-◌, ◌≤◌, ◌<◌}
 use native.Mathlib.Omega.{arith}
-use lib.ListN.{get_or, drop, length-append}
+use lib.ListN.{length, get_or, drop, length-append}
 use lib.Seq.{get_or-drop}
 use Rattle.theory.specs.Sets.{Mem}
 use Rattle.theory.specs.Words.{theory_of}
@@ -22,13 +23,15 @@ use Rattle.theory.proofs.DriveLaws.{follows_all, drives_all}
 use Rattle.graph.proofs.DecodeLaws.{the_atoms}
 use Rattle.area.specs.declared.Bases.{Bases}
 use Rattle.area.specs.Layout.{Laid, Based}
-use Rattle.area.specs.Views.{mark_in, queued}
+use Rattle.area.specs.Views.{mark_of, mark_in, queued}
+use Rattle.rows.specs.Rows.{Tables}
 use Rattle.rows.proofs.VertexLaws.{tables_same}
 use Rattle.components.specs.Gathering.{Gathering}
 use Rattle.components.specs.Classes.{Classifying, Kept, Gathered, Searched, ordered, ctx_of}
-use Rattle.components.proofs.GatherLaws.{row_all, row_edges, ordered_same, left}
+use Rattle.components.proofs.MeetLaws.{met}
+use Rattle.components.proofs.GatherLaws.{row_all, row_edges, ordered_same, left, small, root_in, root_room, gather_known, gather_start}
 
-module _ {ws : List ℕ} {ed : Edition} (acc : Accepted ed ws) {b : Bases} {words : ℕ} (based : Based ws words b) {lim : ℕ} {w₀ w : List ℕ} (n found head tail : ℕ) (r : Searched lim ws b w₀ w n found head tail) where
+module _ {ws : List ℕ} {ed : Edition} (acc : Accepted ed ws) {b : Bases} {words : ℕ} (based : Based ws words b) {lim : ℕ} {w₀ w : List ℕ} {n found head tail : ℕ} (r : Searched lim ws b w₀ w n found head tail) where
   g : Gathering lim b (ctx_of ws b w₀ n found (between found (head - found) (drop b.queue w)) w tail) w tail []
   g = r.held
 
@@ -124,7 +127,7 @@ module _ {ws : List ℕ} {ed : Edition} (acc : Accepted ed ws) {b : Bases} {word
       kept = r.kept;
       state = record {
         tables = tables_same r.kept.tables r.kept.size s.tables;
-        roots = λ v m. left acc based n found s v (rw order_same at m);
+        roots = λ v m. left acc based n s v (rw order_same at m);
         fits = let f = s.fits in omega arith;
         swept = rw (whole, order_same) (collect_end (b.atoms + b.nodes) (cone_preds (theory_of ws)) (in_graph (theory_of ws)) g.within c all);
       };
@@ -169,3 +172,28 @@ module _ {b : Bases} (laid : Laid b) {w₀ w₁ : List ℕ} (k : Kept b w₀ w�
     front = λ i l. r.front i l ∙ front i l;
     held = rw (root_same, order_kept) at r.held;
   }
+
+-- ---- the search from the root x at place n of the order, as `gather` sees it
+
+module _ {ws : List ℕ} {ed : Edition} (acc : Accepted ed ws) {b : Bases} {w : List ℕ} (based : Based ws (length w) b) (n : ℕ) {found : ℕ} (s : Classifying ws b w (n + 1) found) where
+  module _ {x : ℕ} (ex : x ≡ get_or w (b.body_nodes + n) 0) where
+    pub root_place : (mark_of b x < b.end) × (b.end ≤ length w)
+    root_place = let l = based.laid in let r = (root_in acc based n s).1 in (omega arith, based.ends)
+
+    pub root_known : get_or w (mark_of b x) 0 ≢ 2 → Gathered ws b w w n found found
+    root_known k = gather_known acc based n s (rw ex at k)
+
+    module _ (two : get_or w (mark_of b x) 0 ≡ 2) where
+      pub queue_place : (b.queue + found < b.end) × (b.end ≤ length w)
+      queue_place = let l = based.laid in let r = root_room acc based n s (rw ex at two) in (omega arith, based.ends)
+
+      module _ {lim : ℕ} (fits : ed.counts + ed.counts < lim) where
+        opened : Searched lim ws b w (met b w found x) n found found (found + 1)
+        opened = gather_start acc based n s (rw ex at two) based.ends (small lim acc based fits) x ex
+
+        -- what `follow` asks
+        pub root_followed : Accepted ed ws × Based ws (length (met b w found x)) b × Tables (theory_of ws) b (met b w found x) × Searched lim ws b (met b w found x) (met b w found x) n found found (found + 1)
+        root_followed = (acc, rw opened.kept.size based, tables_same opened.kept.tables opened.kept.size s.tables, search_restart based.laid opened.kept n s.fits opened)
+
+        pub root_gathered : {w₂ : List ℕ} {t : ℕ} → Searched lim ws b (met b w found x) w₂ n found t t → Gathered ws b w w₂ n found t
+        root_gathered r = gather_end acc based (search_join based.laid opened.kept n s.fits opened.front r) (omega arith) s

@@ -1,16 +1,16 @@
 -- The producers, one after the other: the start (`marks_part`, `cleared_kept`, `cleared_marks`, `begun_start`), one that is not wanted (`begun_skip`), one with a body (`begun_follows`, `begun_body`) and a fact
--- (`begun_fact`). What one step keeps and the next keeps, both keep (`kept_trans`); the flags are kept (`kept_flags`).
+-- (`begun_fact`). What one step keeps and the next keeps, both keep (`kept_trans`).
 use mathlib.Core.Path.{◌≡◌, refl, sym, ap, ◌∙◌, subst}
-use mathlib.Core.Bool.{Bool, true, false, not}
+use mathlib.Core.Bool.{Bool, false}
 use mathlib.Core.List.Memᴰ
 use mathlib.Core.List.{List, [], ◌∷◌, ◌++◌}
 use Prim.Native.Nat.{ℕ, suc, ◌+◌, ◌-◌, ◌≤◌, ◌<◌, zero-le}
 use native.Mathlib.Numerals.{add-one}
 use native.Mathlib.Omega.{arith}
-use borrow.Author.Tests.{eq-eqb, ne_eqb, not-true, not-false}
+use borrow.Author.Tests.{eq-eqb, ne_eqb}
 use lib.Dec.{eqb}
-use lib.ListN.{length, get_or, set, take, drop, length-set}
-use lib.Seq.{get_or-set_other, get_or-drop, take-set-le, drop-set-lt}
+use lib.ListN.{length, set, take, drop, length-set}
+use lib.Seq.{get_or-set_other, take-set-le, drop-set-lt}
 use Rattle.theory.specs.Sets.{Is, Set, Mem, members}
 use Rattle.theory.specs.Theory.{Theory, WellFormed}
 use Rattle.theory.specs.Words.{theory_of}
@@ -26,7 +26,7 @@ use Rattle.area.proofs.PartLaws.{frame_less, behind_more}
 use Rattle.area.proofs.FillLaws.{Filled}
 use Rattle.area.proofs.ListLaws.{list_more, list_after, drop_later}
 use Rattle.cones.specs.declared.Cone.{Cone}
-use Rattle.cones.specs.Cones.{node_mark, nodes_of, wanted_by, fact_by, Flagged, Kept, Held}
+use Rattle.cones.specs.Cones.{node_mark, nodes_of, fact_by, Kept, Held}
 use Rattle.cones.specs.Finding.{Finding, stage, Searching, Begun}
 use Rattle.cones.proofs.FindLaws.{find_start, find_same, find_producer}
 use Rattle.cones.proofs.FactLaws.{members_in, members_out}
@@ -37,9 +37,6 @@ kept_none = record { size = refl; tables = refl; flags = refl }
 
 pub kept_trans : {b : Bases} {w w' w'' : List ℕ} → Kept b w w' → Kept b w' w'' → Kept b w w''
 kept_trans k l = record { size = l.size ∙ k.size; tables = l.tables ∙ k.tables; flags = l.flags ∙ k.flags }
-
-pub kept_flags : (th : Theory) {b : Bases} {w w' : List ℕ} → Kept b w w' → Flagged th b w → Flagged th b w'
-kept_flags th {b} {w} {w'} k f a l = rw (sym (get_or-drop b.cyclic_atoms w' a 0) ∙ ap (λ (x : List ℕ). get_or x a 0) k.flags ∙ get_or-drop b.cyclic_atoms w a 0) (f a l)
 
 -- the nodes' marks are cleared
 pub marks_part : {b : Bases} {words : ℕ} → Laid b → b.end ≤ words → (b.states + b.atoms ≤ b.states + b.atoms + b.nodes) × (b.states + b.atoms + b.nodes ≤ words)
@@ -52,10 +49,10 @@ module _ {b : Bases} (laid : Laid b) {w w' : List ℕ} (c : Filled (b.states + b
   pub cleared_marks : (n : ℕ) → n < b.nodes → node_mark b w' n ≡ 0
   cleared_marks n l = c.at (mark_of b (b.atoms + n)) (omega arith) (omega arith)
 
-pub begun_start : {lim : ℕ} {ed : Edition} → ed.counts ≤ lim → {ws : List ℕ} → Accepted ed ws → {b : Bases} {w : List ℕ} → Based ws (length w) b → (m : Bool)
-    → ((n : ℕ) → n < b.nodes → node_mark b w n ≡ 0) → Begun lim (theory_of ws) m b w 0 (record { nodes = 0; facts = 0 })
+pub begun_start : {lim : ℕ} {ed : Edition} → ed.counts ≤ lim → {ws : List ℕ} → Accepted ed ws → {b : Bases} {w : List ℕ} → Based ws (length w) b → (wanted : Set)
+    → ((n : ℕ) → n < b.nodes → node_mark b w n ≡ 0) → Begun lim (theory_of ws) wanted b w 0 (record { nodes = 0; facts = 0 })
 unfolding theory_of members
-begun_start le acc base m zeros = record {
+begun_start le acc base wanted zeros = record {
   search = record {
     laid = base.laid;
     ends = base.ends;
@@ -83,45 +80,44 @@ kept_end {b = b} {w} {w'} s size frame = record {
 }
 
 -- producer p; r: whether it is wanted
-module _ {lim : ℕ} {th : Theory} {m : Bool} {b : Bases} {w : List ℕ} {p : ℕ} {c : Cone} (s : Begun lim th m b w p c) (low : p < th.producers) {r : Bool} (is : r ≡ wanted_by th m p) where
-  pub begun_skip : not r ≡ true → Begun lim th m b w (p + 1) c
-  begun_skip no' = record {
+module _ {lim : ℕ} {th : Theory} {wanted : Set} {b : Bases} {w : List ℕ} {p : ℕ} {c : Cone} (s : Begun lim th wanted b w p c) (low : p < th.producers) {r : Bool} (is : r ≡ wanted p) where
+  pub begun_skip : r ≡ false → Begun lim th wanted b w (p + 1) c
+  begun_skip out = record {
     search = search_on s.search refl zero-le (rw add-one (find_producer s.search.finding [] (λ n i. absurd (Memᴰ.not-nil i)) (λ n e h. clash h none))) refl;
     producers = s.producers;
     few = s.few;
     low = omega arith;
     listed = let k = s.listed in omega arith;
-    facts = s.facts ∙ sym (members_out p (fact_by th m) (is_false (fact_by th m p) (λ h. clash (and_right (eqb (th.body p) 0) (wanted_by th m p) h) none)));
+    facts = s.facts ∙ sym (members_out p (fact_by th wanted) (is_false (fact_by th wanted p) (λ h. clash (and_right (eqb (th.body p) 0) (wanted p) h) none)));
   }
     where
-      none : wanted_by th m p ≡ false
-      none = sym is ∙ not-true r no'
+      none : wanted p ≡ false
+      none = sym is ∙ out
 
-  -- k: its body's number from 1, or 0
-  module _ (yes' : not r ≡ false) {k : ℕ} (e : th.body p ≡ k) where
-    taken : Is (wanted_by th m p)
-    taken = sym is ∙ not-false r yes'
+  module _ (in' : Is r) where
+    taken : Is (wanted p)
+    taken = sym is ∙ in'
 
-    -- it has a body, which comes next
-    module _ (ok : WellFormed th) (some : 0 < k) where
-      body_is : th.body p ≡ suc (k - 1)
-      body_is = omega arith
+    -- it has a body, n, which comes next
+    module _ (ok : WellFormed th) {n : ℕ} (some : (0 < th.body p) × (n ≡ th.body p - 1)) where
+      body_is : th.body p ≡ suc n
+      body_is = let s = some.0 in let e = some.1 in omega arith
 
-      body_next : Searching lim b (stage th (wanted_by th m) (p + 1) 0 (drop b.fact_rows w)) w c.nodes ((k - 1) ∷ [])
-      body_next = search_on s.search refl zero-le (rw add-one (find_producer s.search.finding ((k - 1) ∷ []) ahead next)) refl
+      body_next : Searching lim b (stage th wanted (p + 1) 0 (drop b.fact_rows w)) w c.nodes (n ∷ [])
+      body_next = search_on s.search refl zero-le (rw add-one (find_producer s.search.finding (n ∷ []) ahead next)) refl
         where
-          ahead : (n : ℕ) → Mem n ((k - 1) ∷ []) → Is (cone th (wanted_by th m) n)
-          ahead n i =
-              subst (λ (z : ℕ). Is (cone th (wanted_by th m) z)) (sym (Memᴰ.eq_of_singleton i))
-              (cone_body th (wanted_by th m) p (k - 1) low (ok.body_low p (k - 1) low body_is) body_is taken)
+          ahead : (m : ℕ) → Mem m (n ∷ []) → Is (cone th wanted m)
+          ahead m i =
+              subst (λ (z : ℕ). Is (cone th wanted z)) (sym (Memᴰ.eq_of_singleton i))
+              (cone_body th wanted p n low (ok.body_low p n low body_is) body_is taken)
 
-          next : (n : ℕ) → th.body p ≡ suc n → Is (wanted_by th m p) → Mem n ((k - 1) ∷ [])
-          next n q h = let z : n ≡ k - 1 = omega arith in Memᴰ.head z
+          next : (m : ℕ) → th.body p ≡ suc m → Is (wanted p) → Mem m (n ∷ [])
+          next m q h = let z : m ≡ n = omega (arith, body_is) in Memᴰ.head z
 
-      pub begun_follows : Follows (Searching lim b) w c.nodes ((k - 1) ∷ [])
-      begun_follows = record { ctx = stage th (wanted_by th m) (p + 1) 0 (drop b.fact_rows w); more = []; held = body_next }
+      pub begun_follows : Follows (Searching lim b) w c.nodes (n ∷ [])
+      begun_follows = record { ctx = stage th wanted (p + 1) 0 (drop b.fact_rows w); more = []; held = body_next }
 
-      pub begun_body : {w' : List ℕ} {t : ℕ} → Drives (Searching lim b) b.states w c.nodes ((k - 1) ∷ []) w' t [] → Begun lim th m b w' (p + 1) (record { nodes = t; facts = c.facts }) × Kept b w w'
+      pub begun_body : {w' : List ℕ} {t : ℕ} → Drives (Searching lim b) b.states w c.nodes (n ∷ []) w' t [] → Begun lim th wanted b w' (p + 1) (record { nodes = t; facts = c.facts }) × Kept b w w'
       begun_body {w'} {t} d = (
         record {
           search = rw beyond after;
@@ -129,19 +125,19 @@ module _ {lim : ℕ} {th : Theory} {m : Bool} {b : Bases} {w : List ℕ} {p : �
           few = s.few;
           low = omega arith;
           listed = let l = s.listed in omega arith;
-          facts = ap (take c.facts) beyond ∙ s.facts ∙ sym (members_out p (fact_by th m) (is_false (fact_by th m p) (λ h. clash (and_left (eqb (th.body p) 0) (wanted_by th m p) h) (ne_eqb (th.body p) 0 (λ q. omega arith)))));
+          facts = ap (take c.facts) beyond ∙ s.facts ∙ sym (members_out p (fact_by th wanted) (is_false (fact_by th wanted p) (λ h. clash (and_left (eqb (th.body p) 0) (wanted p) h) (ne_eqb (th.body p) 0 (λ q. omega arith)))));
         },
         kept_end after d.size d.frame,
       )
         where
-          after : Searching lim b (stage th (wanted_by th m) (p + 1) 0 (drop b.fact_rows w)) w' t []
-          after = d.keeps (stage th (wanted_by th m) (p + 1) 0 (drop b.fact_rows w)) [] body_next
+          after : Searching lim b (stage th wanted (p + 1) 0 (drop b.fact_rows w)) w' t []
+          after = d.keeps (stage th wanted (p + 1) 0 (drop b.fact_rows w)) [] body_next
 
           beyond : drop b.fact_rows w' ≡ drop b.fact_rows w
           beyond = after.beyond
 
     -- it is a fact, and listed
-    pub begun_fact : k ≤ 0 → Begun lim th m b (set w (b.fact_rows + c.facts) p) (p + 1) (record { nodes = c.nodes; facts = c.facts + 1 }) × Kept b w (set w (b.fact_rows + c.facts) p)
+    pub begun_fact : (0 < th.body p → ⊥) → Begun lim th wanted b (set w (b.fact_rows + c.facts) p) (p + 1) (record { nodes = c.nodes; facts = c.facts + 1 }) × Kept b w (set w (b.fact_rows + c.facts) p)
     begun_fact none = (
       record {
         search = search_on s.search (length-set w at p) zero-le finding refl;
@@ -149,7 +145,7 @@ module _ {lim : ℕ} {th : Theory} {m : Bool} {b : Bases} {w : List ℕ} {p : �
         few = s.few;
         low = omega arith;
         listed = let l = s.listed in omega arith;
-        facts = list_more b.fact_rows c.facts w p room ∙ ap (λ (l : List ℕ). l ++ (p ∷ [])) s.facts ∙ sym (members_in p (fact_by th m) (and_intro (eq-eqb (th.body p) 0 (omega arith)) taken));
+        facts = list_more b.fact_rows c.facts w p room ∙ ap (λ (l : List ℕ). l ++ (p ∷ [])) s.facts ∙ sym (members_in p (fact_by th wanted) (and_intro (eq-eqb (th.body p) 0 (omega arith)) taken));
       },
       record {
         size = length-set w at p;
@@ -164,7 +160,7 @@ module _ {lim : ℕ} {th : Theory} {m : Bool} {b : Bases} {w : List ℕ} {p : �
         room : at < length w
         room = let l = s.search.laid in let h = s.search.ends in let f = s.listed in let q = s.producers in omega arith
 
-        finding : Finding th (wanted_by th m) (p + 1) (nodes_of b (set w at p) c.nodes) [] [] (node_mark b (set w at p))
+        finding : Finding th wanted (p + 1) (nodes_of b (set w at p) c.nodes) [] [] (node_mark b (set w at p))
         finding =
             let l = s.search.laid in
             let o = s.search.room in
@@ -174,7 +170,7 @@ module _ {lim : ℕ} {th : Theory} {m : Bool} {b : Bases} {w : List ℕ} {p : �
             (λ n h. get_or-set_other w at (mark_of b (b.atoms + n)) p 0 (λ y. omega arith)))
 
 -- the search has ended
-pub held_end : {lim : ℕ} {th : Theory} {m : Bool} {b : Bases} {w w' : List ℕ} {next count : ℕ} {c : Cone} → Begun lim th m b w th.producers c
-    → Searching lim b (stage th (wanted_by th m) th.producers next (drop b.fact_rows w)) w' count [] → count ≤ next
-    → Held th (cone th (wanted_by th m)) (fact_by th m) b w' (record { nodes = count; facts = c.facts })
+pub held_end : {lim : ℕ} {th : Theory} {wanted : Set} {b : Bases} {w w' : List ℕ} {next count : ℕ} {c : Cone} → Begun lim th wanted b w th.producers c
+    → Searching lim b (stage th wanted th.producers next (drop b.fact_rows w)) w' count [] → count ≤ next
+    → Held th (cone th wanted) (fact_by th wanted) b w' (record { nodes = count; facts = c.facts })
 held_end {c = c} g s l = record { found = search_end s l; few = g.listed; lists = ap (take c.facts) s.beyond ∙ g.facts }

@@ -1,21 +1,19 @@
--- Refusal 12, a node at a time: whether it is in the body cone and absorbed (`refused_out`, `refused_in`), and what the scan answers (`refuse_at`, `refuse_on`, `refuse_none`).
-use mathlib.Core.Path.{◌≡◌, refl, sym, ap, ◌∙◌}
-use mathlib.Core.Logic.{◌⊎◌, inl, inr}
-use mathlib.Core.Bool.{Bool, true, false, ◌&&◌, cond}
+-- Refusal 12: the first absorbed node of the body cone (`first_of`, `refuse_at`), or none (`refuse_none`).
+use mathlib.Core.Path.{◌≡◌, refl, sym, ap}
+use mathlib.Core.Bool.{false}
 use mathlib.Core.List.{List}
-use Prim.Native.Nat.{ℕ, ◌+◌, ◌<◌}
-use native.Mathlib.Omega.{arith}
-use borrow.Author.Count.{below_more}
-use Rattle.theory.specs.Sets.{Is}
+use Prim.Native.Nat.{ℕ, ◌≤◌, ◌<◌, zero-le}
+use Rattle.theory.specs.Sets.{Is, Set}
 use Rattle.theory.specs.Theory.{Theory, Kind, False, Atom, And, Or, Opaque, Absorbed, absorbed}
 use Rattle.theory.specs.Edges.{body_cone}
-use Rattle.theory.proofs.SetLaws.{bool_cases, clash, and_intro, and_left, and_right}
+use Rattle.theory.proofs.SetLaws.{clash, and_intro, and_left, and_right}
 use Rattle.theory.proofs.EdgeLaws.{cone_bound}
 use Rattle.area.specs.declared.Bases.{Bases}
-use Rattle.std.specs.Prelude.{Ok, Err}
-use Rattle.cones.specs.Cones.{node_mark, Found, body_coned}
+use Rattle.std.specs.Prelude.{Option, Some, None, Ok, Err, MatchOption}
+use Rattle.cones.specs.Cones.{Found, body_coned}
+use Rattle.cones.specs.Finding.{refused}
 
-is_absorbed : (k : Kind) → Is (absorbed k) → k ≡ Kind.Absorbed
+pub is_absorbed : (k : Kind) → Is (absorbed k) → k ≡ Kind.Absorbed
 unfolding absorbed
 is_absorbed False h = clash refl (sym h)
 is_absorbed Atom h = clash refl (sym h)
@@ -24,30 +22,16 @@ is_absorbed Or h = clash refl (sym h)
 is_absorbed Opaque h = clash refl (sym h)
 is_absorbed Absorbed h = refl
 
-module _ {th : Theory} {b : Bases} {w : List ℕ} {count : ℕ} (f : Found th (body_cone th) b w count) where
-  pub refused_out : {n : ℕ} → n < th.nodes → node_mark b w n ≡ 0 → false ≡ body_cone th n && absorbed (th.kind n)
-  refused_out {n} l z = go (bool_cases (body_cone th n))
-    where
-      go : (body_cone th n ≡ true) ⊎ (body_cone th n ≡ false) → false ≡ body_cone th n && absorbed (th.kind n)
-      go (inl e) = let k = f.marks n l ∙ ap (λ (t : Bool). cond t 1 0) e in absurd (omega arith)
-      go (inr e) = sym (ap (λ (t : Bool). t && absorbed (th.kind n)) e)
+-- the first number below n that is in the set, or none
+pub first_of : (s : Set) (n : ℕ) (r : Option ℕ) → MatchOption r ((k : ℕ) → 0 ≤ k → k < n → s k ≡ false) (λ i. (0 ≤ i) × (i < n) × Is (s i) × ((k : ℕ) → 0 ≤ k → k < i → s k ≡ false)) → MatchOption r ((k : ℕ) → k < n → s k ≡ false) (λ i. (i < n) × Is (s i))
+first_of s n None h = λ k l. h k zero-le l
+first_of s n (Some i) h = (h.1, h.2)
 
-  pub refused_in : {n : ℕ} {r : Bool} → n < th.nodes → (node_mark b w n ≡ 0 → ⊥) → absorbed (th.kind n) ≡ r → r ≡ body_cone th n && absorbed (th.kind n)
-  refused_in {n} {r} l z e = go (bool_cases (body_cone th n))
-    where
-      go : (body_cone th n ≡ true) ⊎ (body_cone th n ≡ false) → r ≡ body_cone th n && absorbed (th.kind n)
-      go (inl q) = sym e ∙ sym (ap (λ (t : Bool). t && absorbed (th.kind n)) q)
-      go (inr q) = absurd (z (f.marks n l ∙ ap (λ (t : Bool). cond t 1 0) q))
+module _ (th : Theory) (b : Bases) (w : List ℕ) where
+  pub refuse_at : {n : ℕ} → n < th.nodes → Is (refused th n) → body_coned th b w (Err (record { node = n }))
+  unfolding body_coned
+  refuse_at {n} l h = (l, and_left (body_cone th n) (absorbed (th.kind n)) h, is_absorbed (th.kind n) (and_right (body_cone th n) (absorbed (th.kind n)) h))
 
-  -- r: the answer at n
-  module _ {n : ℕ} {r : Bool} (is : r ≡ body_cone th n && absorbed (th.kind n)) where
-    pub refuse_at : n < th.nodes → Is r → body_coned th b w (Err (record { node = n }))
-    unfolding body_coned
-    refuse_at l h = let k = sym is ∙ h in (l, and_left (body_cone th n) (absorbed (th.kind n)) k, is_absorbed (th.kind n) (and_right (body_cone th n) (absorbed (th.kind n)) k))
-
-    pub refuse_on : ((k : ℕ) → k < n → body_cone th k && absorbed (th.kind k) ≡ false) → r ≡ false → (k : ℕ) → k < n + 1 → body_cone th k && absorbed (th.kind k) ≡ false
-    refuse_on before h = below_more (λ k. body_cone th k && absorbed (th.kind k) ≡ false) n before (sym is ∙ h)
-
-  pub refuse_none : ((n : ℕ) → n < th.nodes → body_cone th n && absorbed (th.kind n) ≡ false) → body_coned th b w (Ok count)
+  pub refuse_none : {count : ℕ} → Found th (body_cone th) b w count → ((n : ℕ) → n < th.nodes → refused th n ≡ false) → body_coned th b w (Ok count)
   unfolding body_coned body_cone absorbed
-  refuse_none none = (f, λ n h e. clash (and_intro h (ap absorbed e)) (none n (cone_bound th _ n h)))
+  refuse_none f none = (f, λ n h e. clash (and_intro h (ap absorbed e)) (none n (cone_bound th _ n h)))

@@ -1,5 +1,5 @@
 -- The two cones as they stand in the work area (document 01, "Preparation": the first and the second cone), and what their calls promise.
-use Rattle.std.specs.Prelude.{◌≡◌, ◌↔◌, Bool, true, false, ◌&&◌, cond, List, ℕ, ◌+◌, ◌≤◌, ◌<◌, eqb, length, take, drop, Result, Ok, Err}
+use Rattle.std.specs.Prelude.{◌≡◌, ◌↔◌, ◌&&◌, cond, List, ℕ, ◌+◌, ◌≤◌, ◌<◌, eqb, length, take, drop, Result, Ok, Err}
 use Rattle.theory.specs.Sets.{Is, Set, Mem, any, filled, members}
 use Rattle.theory.specs.Counts.{Distinct}
 use Rattle.theory.specs.Theory.{Theory, Kind}
@@ -21,17 +21,16 @@ abbrev pub facts_of : Bases → List ℕ → ℕ → List ℕ
 facts_of b w n = take n (drop b.fact_rows w)
 
 module _ (th : Theory) where
-  -- the heads of a producer that a cone starts from: some head, or some cyclic head
-  unfoldable pub picked : Bool → List ℕ → Bool
-  picked false heads = filled heads
-  picked true heads = any (cyclic th) heads
+  -- the producers that a cone starts from: those with some head, or with a cyclic head
+  abbrev pub headed : Set
+  headed p = filled (th.heads p)
 
-  abbrev pub wanted_by : Bool → Set
-  wanted_by cyclic_only p = picked cyclic_only (th.heads p)
+  abbrev pub cyclic_headed : Set
+  cyclic_headed p = any (cyclic th) (th.heads p)
 
-  -- the facts with such heads
-  abbrev pub fact_by : Bool → Set
-  fact_by cyclic_only p = eqb (th.body p) 0 && wanted_by cyclic_only p
+  -- the facts among the producers wanted
+  abbrev pub fact_by : Set → Set
+  fact_by wanted p = eqb (th.body p) 0 && wanted p
 
   -- the flags of the cyclic atoms
   abbrev pub Flagged : Bases → List ℕ → Type 0
@@ -63,4 +62,4 @@ body_coned th b w (Err e) = (e.node < th.nodes) × Is (body_cone th e.node) × (
 
 -- the cyclic cone, and the facts with a cyclic head
 abbrev pub cyclic_coned : Theory → Bases → List ℕ → Cone → Type 0
-cyclic_coned th b w c = Held th (cyclic_cone th) (λ p. eqb (th.body p) 0 && any (cyclic th) (th.heads p)) b w c
+cyclic_coned th b w c = Held th (cyclic_cone th) (fact_by th (cyclic_headed th)) b w c

@@ -1,14 +1,18 @@
 -- What the search for a cone keeps, over lists and functions; and as the work area has it. The search is that of the Rust's `prepare_cone`: the
 -- list of the nodes found is its queue.
-use Rattle.std.specs.Prelude.{◌≡◌, ◌⊎◌, Bool, cond, List, [], ℕ, suc, ◌≤◌, ◌<◌, length, drop}
+use Rattle.std.specs.Prelude.{◌≡◌, ◌⊎◌, ◌&&◌, cond, List, [], ℕ, suc, ◌≤◌, ◌<◌, get_or, length, drop}
+use Rattle.std.proofs.Common.{ap, sym, ◌∙◌}
+use lib.Seq.{get_or-drop}
 use Rattle.theory.specs.Sets.{Is, Set, Mem, member, members}
 use Rattle.theory.specs.Counts.{Distinct}
-use Rattle.theory.specs.Theory.{Theory}
-use Rattle.theory.specs.Edges.{cone}
+use Rattle.theory.specs.Theory.{Theory, absorbed}
+use Rattle.theory.specs.Edges.{cone, body_cone}
+use Rattle.theory.specs.Words.{theory_of}
+use Rattle.theory.specs.Accepted.{Edition, Accepted}
 use Rattle.area.specs.declared.Bases.{Bases}
-use Rattle.area.specs.Layout.{Laid}
+use Rattle.area.specs.Layout.{Laid, Based}
 use Rattle.cones.specs.declared.Cone.{Cone}
-use Rattle.cones.specs.Cones.{node_mark, nodes_of, facts_of, wanted_by, fact_by}
+use Rattle.cones.specs.Cones.{node_mark, nodes_of, facts_of, fact_by, Flagged, Kept, Held}
 
 module _ (th : Theory) (wanted : Set) where
   -- n is the body of a wanted producer below p, or a leaf of a node in begun
@@ -22,6 +26,14 @@ module _ (th : Theory) (wanted : Set) where
     pub ahead : (n : ℕ) → Mem n todo → Is (cone th wanted n)
     pub due : (n : ℕ) → Due p begun n → Mem n found ⊎ Mem n todo
     pub marks : (n : ℕ) → n < th.nodes → mark n ≡ cond (member n found) 1 0
+
+-- an accepted graph and its bases, and what the test of a producer reads in the work area
+abbrev pub Given : Edition → (reads : Theory → Bases → List ℕ → Type 0) → List ℕ → Bases → List ℕ → Type 0
+Given ed reads ws b w = Accepted ed ws × Based ws (length w) b × reads (theory_of ws) b w
+
+-- what a search keeps has the flags in it
+pub kept_flags : (th : Theory) (b : Bases) (w w' : List ℕ) → Kept b w w' → Flagged th b w → Flagged th b w'
+kept_flags th b w w' k f a l = rw (sym (get_or-drop b.cyclic_atoms w' a 0) ∙ ap (λ (x : List ℕ). get_or x a 0) k.flags ∙ get_or-drop b.cyclic_atoms w a 0) (f a l)
 
 -- where a search stands: the producers below `below` have been looked at, the leaves of the first `next` nodes of the list have been begun; rest: the words
 -- from the facts on
@@ -47,10 +59,18 @@ pub record Searching (lim : ℕ) (b : Bases) (c : Stage) (w : List ℕ) (count :
   pub beyond : drop b.fact_rows w ≡ c.rest
 
 -- the producers below p have been looked at: the bodies of the wanted ones are found, and the facts among them listed
-pub record Begun (lim : ℕ) (th : Theory) (cyclic_only : Bool) (b : Bases) (w : List ℕ) (p : ℕ) (c : Cone) : Type 0 where
-  pub search : Searching lim b (stage th (wanted_by th cyclic_only) p 0 (drop b.fact_rows w)) w c.nodes []
+pub record Begun (lim : ℕ) (th : Theory) (wanted : Set) (b : Bases) (w : List ℕ) (p : ℕ) (c : Cone) : Type 0 where
+  pub search : Searching lim b (stage th wanted p 0 (drop b.fact_rows w)) w c.nodes []
   pub producers : b.producers ≡ th.producers
   pub few : b.producers ≤ lim
   pub low : p ≤ th.producers
   pub listed : c.facts ≤ p
-  pub facts : facts_of b w c.facts ≡ members p (fact_by th cyclic_only)
+  pub facts : facts_of b w c.facts ≡ members p (fact_by th wanted)
+
+-- what a search leaves of the words w₀: the cone of the producers wanted, and the facts among them
+abbrev pub Searched : (th : Theory) (wanted : Set) → Bases → (w₀ w : List ℕ) → Cone → Type 0
+Searched th wanted b w₀ w c = Held th (cone th wanted) (fact_by th wanted) b w c × Kept b w₀ w
+
+-- the nodes that refusal 12 is for
+abbrev pub refused : Theory → Set
+refused th n = body_cone th n && absorbed (th.kind n)

@@ -2,17 +2,16 @@
 // search marks a node when it finds it, and the list of the nodes found is its queue.
 #![tactic(auto)]
 
-ghost use Rattle.std.specs.Prelude.{◌≡◌, true, ◌&&◌, ℕ, ◌+◌, ◌≤◌, ◌<◌, length};
-ghost use Rattle.theory.specs.Sets.{Mem, any};
-ghost use Rattle.theory.specs.Theory.{absorbed};
-ghost use Rattle.theory.specs.Founded.{cyclic};
-ghost use Rattle.theory.specs.Words.{chain, theory_of};
-ghost use Rattle.theory.specs.Links.{MeetsOnce};
-ghost use Rattle.theory.specs.Edges.{cone, body_cone};
+ghost use Rattle.std.specs.Prelude.{◌≡◌, false, cond, List, ℕ, ◌+◌, ◌≤◌, ◌<◌, length, MatchOption};
+ghost use Rattle.theory.specs.Sets.{Is, Set};
+ghost use Rattle.theory.specs.Theory.{Theory};
+ghost use Rattle.theory.specs.Words.{theory_of};
+ghost use Rattle.theory.specs.Edges.{body_cone};
 ghost use Rattle.theory.specs.Accepted.{Accepted};
+ghost use Rattle.area.specs.declared.Bases.{Bases};
 ghost use Rattle.area.specs.Layout.{Laid, bases_of, Based};
-ghost use Rattle.cones.specs.Cones.{node_mark, wanted_by, fact_by, Flagged, Found, Kept, Held, body_coned, cyclic_coned};
-ghost use Rattle.cones.specs.Finding.{Stage, Searching, Begun};
+ghost use Rattle.cones.specs.Cones.{node_mark, headed, cyclic_headed, Flagged, Kept, body_coned, cyclic_coned};
+ghost use Rattle.cones.specs.Finding.{Given, kept_flags, Stage, Searching, Begun, Searched, refused};
 
 use area::Bases;
 use chains::Step;
@@ -31,38 +30,66 @@ pub struct Absorbed {
     pub node: usize,
 }
 
-// Whether a chain of heads has a cyclic one. It is gone along to its end: which head is the first cyclic one cannot be foreseen.
-// Nothing is changed at a head, so this is no `chains::Step`, and the only walk of its kind.
-fn cyclic_head<W: Word>(graph: &[W], work: &[W], b: Bases, first: usize) -> bool
-    requires accepted { Accepted W.edition (W.numbers graph.now) × Based (W.numbers graph.now) (length (W.numbers work.now)) b × Flagged (theory_of (W.numbers graph.now)) b (W.numbers work.now) }
-    requires meets_once { MeetsOnce (W.numbers graph.now) first × ((a : ℕ) → Mem a (chain (W.numbers graph.now) first) → a < (theory_of (W.numbers graph.now)).atoms) }
-    ensures { result ≡ any (cyclic (theory_of (W.numbers graph.now))) (chain (W.numbers graph.now) first) }
-{
-    let from = graph::links_from(graph);
-    let mut found = false;
-    let mut l = first;
-    while l > 0 {
-        let a = graph::value(graph, from, l);
-        l = graph::next(graph, from, l);
-        found = found | (words::at(work, b.cyclic_atoms + a) == 1);
-    }
-    found
+// The mark of a node that is found: a word of the work area, so no enum. Others have 0.
+const FOUND: usize = 1;
+
+// Which producers a cone starts from. (`Given` speaks of the words of the work area at one time, and `Kept` at two: `area::Bases` says why no struct holds them.)
+trait Wanted<W: Word>: Copy {
+    // They, and what the test of one reads in the work area.
+    ghost set: { Theory → Set };
+
+    ghost reads: { Theory → Bases → List ℕ → Type 0 };
+
+    fn has(self, graph: &[W], work: &[W], b: Bases, p: usize) -> bool
+        requires given { Given W.edition reads (W.numbers graph.now) b (W.numbers work.now) × (p < (theory_of (W.numbers graph.now)).producers) }
+        ensures { result ≡ set (theory_of (W.numbers graph.now)) p };
+
+    // A search changes nothing of that.
+    ghost stays: { (th : Theory) (b : Bases) (w w' : List ℕ) → Kept b w w' → reads th b w → reads th b w' };
 }
 
-// Whether a cone starts from a producer: some head, or some cyclic head.
-fn wanted<W: Word>(graph: &[W], work: &[W], b: Bases, cyclic_only: bool, p: usize) -> bool
-    requires accepted { Accepted W.edition (W.numbers graph.now) × Based (W.numbers graph.now) (length (W.numbers work.now)) b × (p < (theory_of (W.numbers graph.now)).producers) }
-    requires flagged { cyclic_only ≡ true → Flagged (theory_of (W.numbers graph.now)) b (W.numbers work.now) }
-    ensures { result ≡ wanted_by (theory_of (W.numbers graph.now)) cyclic_only p }
-{
-    let first = graph::first_head(graph, p);
-    if cyclic_only {
-        return cyclic_head(graph, work, b, first);
+// Those with some head.
+#[derive(Clone, Copy)]
+struct Headed;
+
+impl<W: Word> Wanted<W> for Headed {
+    ghost set = { headed };
+
+    ghost reads = { λ th b w. Unit {0} };
+
+    ghost stays = { λ th b w w' kept read. read };
+
+    #[tactic(auto, unfolding(theory::specs::Words::theory_of))]
+    fn has(self, graph: &[W], work: &[W], b: Bases, p: usize) -> bool {
+        graph::first_head(graph, p) > 0
     }
-    first > 0
+}
+
+// Those with a cyclic head.
+#[derive(Clone, Copy)]
+struct CyclicHeaded;
+
+impl<W: Word> Wanted<W> for CyclicHeaded {
+    ghost set = { cyclic_headed };
+
+    ghost reads = { Flagged };
+
+    ghost stays = { kept_flags };
+
+    // The chain of heads is gone along to its end: which head is the first cyclic one cannot be foreseen. Nothing is changed at a head, so this is no
+    // `chains::Step`.
+    #[tactic(auto, unfolding(theory::specs::Words::theory_of))]
+    fn has(self, graph: &[W], work: &[W], b: Bases, p: usize) -> bool {
+        let mut found = false;
+        for a in graph::follow(graph, graph::first_head(graph, p)) {
+            found |= words::at(work, b.cyclic_atoms + a) == words::SET;
+        }
+        found
+    }
 }
 
 // A node is marked, and listed unless it was found already. It is stored behind the list all the same: whether it is new cannot be foreseen either.
+// The list stands in the lent work area, as there is no heap, and `count` says how long it is.
 #[derive(Clone, Copy)]
 struct Include {
     bases: Bases,
@@ -79,53 +106,48 @@ impl<W: Word> Step<W> for Include {
         let b = self.bases;
         let mark = b.states + (b.atoms + n);
         let found = words::at(work, mark);
-        words::put(work, mark, 1);
+        words::put(work, mark, FOUND);
         words::put(work, b.body_nodes + count, n);
         count + 1 - found
     }
 }
 
 // Producer p: the body of a wanted one is included, and a wanted fact is listed.
-fn begin_at<W: Word>(
+fn begin_at<W: Word, S: Wanted<W>>(
     graph: &[W],
     work: &mut [W],
     b: Bases,
-    cyclic_only: bool,
+    wanted: S,
     p: usize,
     c: Cone,
 ) -> Cone
-    requires accepted { Accepted W.edition (W.numbers graph.now) × Based (W.numbers graph.now) (length (W.numbers work.old)) b × (p < (theory_of (W.numbers graph.now)).producers) }
-    requires flagged { cyclic_only ≡ true → Flagged (theory_of (W.numbers graph.now)) b (W.numbers work.old) }
-    requires begun { Begun W.limit (theory_of (W.numbers graph.now)) cyclic_only b (W.numbers work.old) p c }
-    ensures { Begun W.limit (theory_of (W.numbers graph.now)) cyclic_only b (W.numbers work.new) (p + 1) result × Kept b (W.numbers work.old) (W.numbers work.new) }
+    requires given { Given W.edition S.reads (W.numbers graph.now) b (W.numbers work.old) × (p < (theory_of (W.numbers graph.now)).producers) }
+    requires begun { Begun W.limit (theory_of (W.numbers graph.now)) (S.set (theory_of (W.numbers graph.now))) b (W.numbers work.old) p c }
+    ensures { Begun W.limit (theory_of (W.numbers graph.now)) (S.set (theory_of (W.numbers graph.now))) b (W.numbers work.new) (p + 1) result × Kept b (W.numbers work.old) (W.numbers work.new) }
 {
-    if !wanted(graph, work, b, cyclic_only, p) {
+    if !wanted.has(graph, work, b, p) {
         return c;
     }
-    let nodes = c.nodes;
-    let facts = c.facts;
-    let body = graph::body(graph, p);
-    if body > 0 {
-        let more = Include { bases: b }.step(work, body - 1, nodes);
-        return Cone { nodes: more, facts };
+    if let Some(body) = graph::body_node(graph, p) {
+        let nodes = Include { bases: b }.step(work, body, c.nodes);
+        return Cone { nodes, ..c };
     }
-    words::put(work, b.fact_rows + facts, p);
+    words::put(work, b.fact_rows + c.facts, p);
     Cone {
-        nodes,
-        facts: facts + 1,
+        facts: c.facts + 1,
+        ..c
     }
 }
 
 // Every producer in turn; no node is marked yet.
-fn begin<W: Word>(graph: &[W], work: &mut [W], b: Bases, cyclic_only: bool) -> Cone
-    requires accepted { Accepted W.edition (W.numbers graph.now) × Based (W.numbers graph.now) (length (W.numbers work.old)) b }
-    requires flagged { cyclic_only ≡ true → Flagged (theory_of (W.numbers graph.now)) b (W.numbers work.old) }
-    requires begun { Begun W.limit (theory_of (W.numbers graph.now)) cyclic_only b (W.numbers work.old) 0 (record { nodes = 0; facts = 0 }) }
-    ensures { Begun W.limit (theory_of (W.numbers graph.now)) cyclic_only b (W.numbers work.new) (theory_of (W.numbers graph.now)).producers result × Kept b (W.numbers work.old) (W.numbers work.new) }
+fn begin<W: Word, S: Wanted<W>>(graph: &[W], work: &mut [W], b: Bases, wanted: S) -> Cone
+    requires given { Given W.edition S.reads (W.numbers graph.now) b (W.numbers work.old) }
+    requires begun { Begun W.limit (theory_of (W.numbers graph.now)) (S.set (theory_of (W.numbers graph.now))) b (W.numbers work.old) 0 (record { nodes = 0; facts = 0 }) }
+    ensures { Begun W.limit (theory_of (W.numbers graph.now)) (S.set (theory_of (W.numbers graph.now))) b (W.numbers work.new) (theory_of (W.numbers graph.now)).producers result × Kept b (W.numbers work.old) (W.numbers work.new) }
 {
     let mut c = Cone { nodes: 0, facts: 0 };
     for p in 0..b.producers {
-        c = begin_at(graph, work, b, cyclic_only, p, c);
+        c = begin_at(graph, work, b, wanted, p, c);
     }
     c
 }
@@ -141,13 +163,12 @@ fn clear_marks<W: Word>(work: &mut [W], b: Bases)
 }
 
 // The cone: first the bodies, then the leaves of each node of the list in turn. In an accepted graph only And and Or have leaves.
-fn find_in<W: Word>(graph: &[W], work: &mut [W], b: Bases, cyclic_only: bool) -> Cone
-    requires accepted { Accepted W.edition (W.numbers graph.now) × Based (W.numbers graph.now) (length (W.numbers work.old)) b }
-    requires flagged { cyclic_only ≡ true → Flagged (theory_of (W.numbers graph.now)) b (W.numbers work.old) }
-    ensures { Held (theory_of (W.numbers graph.now)) (cone (theory_of (W.numbers graph.now)) (wanted_by (theory_of (W.numbers graph.now)) cyclic_only)) (fact_by (theory_of (W.numbers graph.now)) cyclic_only) b (W.numbers work.new) result × Kept b (W.numbers work.old) (W.numbers work.new) }
+fn find_in<W: Word, S: Wanted<W>>(graph: &[W], work: &mut [W], b: Bases, wanted: S) -> Cone
+    requires { Given W.edition S.reads (W.numbers graph.now) b (W.numbers work.old) }
+    ensures { Searched (theory_of (W.numbers graph.now)) (S.set (theory_of (W.numbers graph.now))) b (W.numbers work.old) (W.numbers work.new) result }
 {
     clear_marks(work, b);
-    let c = begin(graph, work, b, cyclic_only);
+    let c = begin(graph, work, b, wanted);
     let bodies = c.nodes;
     let mut nodes = bodies;
     let mut next: usize = 0;
@@ -163,46 +184,37 @@ fn find_in<W: Word>(graph: &[W], work: &mut [W], b: Bases, cyclic_only: bool) ->
         );
         next += 1;
     }
-    Cone {
-        nodes,
-        facts: c.facts,
-    }
+    Cone { nodes, ..c }
 }
 
-// The same, with the bases worked out here (`area::bases_of` says why).
-fn find<W: Word>(graph: &[W], work: &mut [W], cyclic_only: bool) -> Cone
-    requires accepted { Accepted W.edition (W.numbers graph.now) × Based (W.numbers graph.now) (length (W.numbers work.old)) (bases_of (W.numbers graph.now) (length (W.numbers work.old))) }
-    requires flagged { cyclic_only ≡ true → Flagged (theory_of (W.numbers graph.now)) (bases_of (W.numbers graph.now) (length (W.numbers work.old))) (W.numbers work.old) }
-    ensures { Held (theory_of (W.numbers graph.now)) (cone (theory_of (W.numbers graph.now)) (wanted_by (theory_of (W.numbers graph.now)) cyclic_only)) (fact_by (theory_of (W.numbers graph.now)) cyclic_only) (bases_of (W.numbers graph.now) (length (W.numbers work.old))) (W.numbers work.new) result × Kept (bases_of (W.numbers graph.now) (length (W.numbers work.old))) (W.numbers work.old) (W.numbers work.new) }
+// The same, with the bases worked out here (`area::bases_of` says why). So do events::settle_all and preparation::mark: one function for the three would be handed a closure, with
+// its clauses at each of them, for these two lines.
+fn find<W: Word, S: Wanted<W>>(graph: &[W], work: &mut [W], wanted: S) -> Cone
+    requires { Given W.edition S.reads (W.numbers graph.now) (bases_of (W.numbers graph.now) (length (W.numbers work.old))) (W.numbers work.old) }
+    ensures { Searched (theory_of (W.numbers graph.now)) (S.set (theory_of (W.numbers graph.now))) (bases_of (W.numbers graph.now) (length (W.numbers work.old))) (W.numbers work.old) (W.numbers work.new) result }
 {
     let words = work.len();
-    find_in(graph, work, area::bases_of(graph, words), cyclic_only)
+    find_in(graph, work, area::bases_of(graph, words), wanted)
 }
 
 // Whether a node is absorbed and in the body cone.
-fn refused_at<W: Word>(graph: &[W], work: &[W], b: Bases, count: usize, n: usize) -> bool
+#[tactic(auto, unfolding(theory::specs::Words::theory_of))]
+fn refused_at<W: Word>(graph: &[W], work: &[W], b: Bases, n: usize) -> bool
     requires accepted { Accepted W.edition (W.numbers graph.now) × Based (W.numbers graph.now) (length (W.numbers work.now)) b × (n < (theory_of (W.numbers graph.now)).nodes) }
-    requires found { Found (theory_of (W.numbers graph.now)) (body_cone (theory_of (W.numbers graph.now))) b (W.numbers work.now) count }
-    ensures { result ≡ body_cone (theory_of (W.numbers graph.now)) n && absorbed ((theory_of (W.numbers graph.now)).kind n) }
+    requires mark { node_mark b (W.numbers work.now) n ≡ cond (body_cone (theory_of (W.numbers graph.now)) n) 1 0 }
+    ensures { result ≡ refused (theory_of (W.numbers graph.now)) n }
 {
-    if words::at(work, b.states + (b.atoms + n)) == 0 {
-        return false;
-    }
-    graph::absorbed(graph::kind(graph, n))
+    let mark = b.states + (b.atoms + n);
+    words::at(work, mark) == FOUND && graph::node_kind(graph, n).absorbed()
 }
 
-// How many nodes the body cone has, unless one of them is absorbed: the lowest of these.
-fn refuse<W: Word>(graph: &[W], work: &[W], b: Bases, count: usize) -> Result<usize, Absorbed>
+// The lowest of them (the clause says that it is one of them).
+fn first_refused<W: Word>(graph: &[W], work: &[W], b: Bases) -> Option<usize>
     requires accepted { Accepted W.edition (W.numbers graph.now) × Based (W.numbers graph.now) (length (W.numbers work.now)) b }
-    requires found { Found (theory_of (W.numbers graph.now)) (body_cone (theory_of (W.numbers graph.now))) b (W.numbers work.now) count }
-    ensures { body_coned (theory_of (W.numbers graph.now)) b (W.numbers work.now) result }
+    requires marks { (n : ℕ) → n < (theory_of (W.numbers graph.now)).nodes → node_mark b (W.numbers work.now) n ≡ cond (body_cone (theory_of (W.numbers graph.now)) n) 1 0 }
+    ensures { MatchOption result ((n : ℕ) → n < b.nodes → refused (theory_of (W.numbers graph.now)) n ≡ false) (λ n. (n < b.nodes) × Is (refused (theory_of (W.numbers graph.now)) n)) }
 {
-    for n in 0..b.nodes {
-        if refused_at(graph, work, b, count, n) {
-            return Err(Absorbed { node: n });
-        }
-    }
-    Ok(count)
+    (0..b.nodes).find(|&n| refused_at(graph, work, b, n))
 }
 
 // The body cone (document 01: the first cone).
@@ -210,8 +222,11 @@ pub fn body_cone<W: Word>(graph: &[W], work: &mut [W], b: Bases) -> Result<usize
     requires { Accepted W.edition (W.numbers graph.now) × Based (W.numbers graph.now) (length (W.numbers work.old)) b }
     ensures { Kept b (W.numbers work.old) (W.numbers work.new) × body_coned (theory_of (W.numbers graph.now)) b (W.numbers work.new) result }
 {
-    let c = find(graph, work, false);
-    refuse(graph, work, b, c.nodes)
+    let c = find(graph, work, Headed);
+    match first_refused(graph, work, b) {
+        Some(node) => Err(Absorbed { node }),
+        None => Ok(c.nodes),
+    }
 }
 
 // The cyclic cone (document 01: the second cone).
@@ -219,5 +234,5 @@ pub fn cyclic_cone<W: Word>(graph: &[W], work: &mut [W], b: Bases) -> Cone
     requires { Accepted W.edition (W.numbers graph.now) × Based (W.numbers graph.now) (length (W.numbers work.old)) b × Flagged (theory_of (W.numbers graph.now)) b (W.numbers work.old) }
     ensures { Kept b (W.numbers work.old) (W.numbers work.new) × cyclic_coned (theory_of (W.numbers graph.now)) b (W.numbers work.new) result }
 {
-    find(graph, work, true)
+    find(graph, work, CyclicHeaded)
 }

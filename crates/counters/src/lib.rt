@@ -5,19 +5,12 @@ ghost use Rattle.std.specs.Prelude.{◌≡◌, ◌+◌, ◌<◌, length, get_or,
 
 use words::Word;
 
-pub fn get<W: Word>(counts: &[W], i: usize) -> usize
-    requires { i < length (W.numbers counts.now) }
-    ensures { result ≡ get_or (W.numbers counts.now) i 0 }
-{
-    words::at(counts, i)
-}
-
 // The count before.
 pub fn add<W: Word>(counts: &mut [W], i: usize, amount: usize) -> usize
     requires { (i < length (W.numbers counts.old)) × (get_or (W.numbers counts.old) i 0 + amount < W.limit) }
-    ensures { (result ≡ get_or (W.numbers counts.old) i 0) × ((W.numbers counts.new) ≡ set (W.numbers counts.old) i (result + amount)) }
+    ensures { (result ≡ get_or (W.numbers counts.old) i 0) × (W.numbers counts.new ≡ set (W.numbers counts.old) i (result + amount)) }
 {
-    let n = get(counts, i);
+    let n = words::at(counts, i);
     words::put(counts, i, n + amount);
     n
 }

@@ -2,9 +2,11 @@
 -- (`below_fact`), and a producer with a body one for each time that it has the atom as a head (`below_heads`).
 use mathlib.Core.Path.{◌≡◌, refl, sym, ap, ◌∙◌}
 use mathlib.Core.Logic.{◌≢◌}
-use mathlib.Core.Bool.{Bool, true, false, cond}
+use mathlib.Core.Bool.{Bool, true, false, not, cond}
+use Rattle.std.specs.Prelude.{Option, None, Some, SomeIff}
+use Rattle.std.specs.Option.{is_some}
 use mathlib.Core.List.{List, [], ◌∷◌}
-use Prim.Native.Nat.{ℕ, zero, suc, ◌+◌, ◌≤◌, ◌<◌}
+use Prim.Native.Nat.{ℕ, zero, suc, ◌+◌, ◌-◌, ◌≤◌, ◌<◌}
 use native.Mathlib.Omega.{arith}
 use native.Mathlib.Decide.{ℕ_discrete, dec_lt}
 use borrow.Author.Tests.{lt-ltb, le-ltb}
@@ -27,6 +29,16 @@ occurs_length x a (h ∷ hs) = go (eqb a h) (occurs_length x a hs)
     go : (b : Bool) → length (occurrences x a hs) ≡ occ a hs → length (cond b (x ∷ occurrences x a hs) (occurrences x a hs)) ≡ cond b (suc (occ a hs)) (occ a hs)
     go true e = ap suc e
     go false e = e
+
+-- ---- a body, or none for a fact
+
+pub body_none : (r : Option ℕ) {n : ℕ} {none : Bool} → SomeIff r (0 < n) (n - 1) → is_some r ≡ not none → none ≡ true → n ≡ 0
+body_none None is e z = omega arith
+body_none (Some m) is e z = clash refl (e ∙ ap not z)
+
+pub body_some : (r : Option ℕ) {n : ℕ} {none : Bool} → SomeIff r (0 < n) (n - 1) → is_some r ≡ not none → none ≡ false → n ≢ 0
+body_some None is e z q = clash (e ∙ ap not z) refl
+body_some (Some m) is e z q = let p = is.0 in absurd (omega arith)
 
 module _ (th : Theory) where
   -- ---- atoms

@@ -49,9 +49,6 @@ module _ {lim : ℕ} {th : Theory} {b : Bases} {w : List ℕ} {n : ℕ} (s : Sta
     degree_here : x ≡ length (preds th everyone (b.atoms + n))
     degree_here = e ∙ ap (λ (a : ℕ). length (preds th everyone (a + n))) (sym s.shape.atoms)
 
-    pub node_fits : x < lim
-    node_fits = let q = degree_here in omega (arith, s.shape.few (b.atoms + n) (omega arith))
-
     pub node_counted : Started lim th b (set w (b.dependencies + (b.atoms + n)) x) (n + 1)
     node_counted = record {
       shape = shape_set (b.dependencies + (b.atoms + n)) x (let k = s.shape.laid in omega arith) s.shape;

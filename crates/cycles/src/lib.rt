@@ -25,13 +25,14 @@ fn degree<W: Word>(graph: &[W], n: usize) -> usize
     requires { Accepted W.edition (W.numbers graph.now) × (n < (theory_of (W.numbers graph.now)).nodes) }
     ensures { result ≡ length (preds (theory_of (W.numbers graph.now)) everyone ((theory_of (W.numbers graph.now)).atoms + n)) }
 {
-    if graph::takes_operand(graph::kind(graph, n)) {
+    if graph::node_kind(graph, n).takes_operand() {
         return 1;
     }
     graph::entries(graph, graph::first_leaf(graph, n))
 }
 
-// How many entries each node waits for.
+// How many entries each node waits for. (`Started` is what the work area holds between `set_up` and `count_all`. The words change from contract to contract, so a struct with a
+// ghost field that states it would have to be made anew after each call.)
 fn count_nodes<W: Word>(graph: &[W], work: &mut [W], b: Bases)
     requires { Accepted W.edition (W.numbers graph.now) × Started W.limit (theory_of (W.numbers graph.now)) b (W.numbers work.old) 0 }
     ensures { Started W.limit (theory_of (W.numbers graph.now)) b (W.numbers work.new) b.nodes }
@@ -41,7 +42,8 @@ fn count_nodes<W: Word>(graph: &[W], work: &mut [W], b: Bases)
     }
 }
 
-// One more entry that a head waits for.
+// One more entry that a head waits for. (`tail`, the length of a list in lent memory, is what a `Step` hands on: no list grows here. In `look_all` it is the queue's;
+// there is no heap to have a list of its own length on.)
 #[derive(Clone, Copy)]
 struct Count {
     bases: Bases,
@@ -65,7 +67,7 @@ fn count_heads<W: Word>(graph: &[W], work: &mut [W], b: Bases, p: usize)
     requires { Accepted W.edition (W.numbers graph.now) × (p < (theory_of (W.numbers graph.now)).producers) × Counting W.limit (theory_of (W.numbers graph.now)) b (W.numbers work.old) p [] }
     ensures { Counting W.limit (theory_of (W.numbers graph.now)) b (W.numbers work.new) (p + 1) [] }
 {
-    if graph::body(graph, p) == 0 {
+    if graph::body_node(graph, p).is_none() {
         return;
     }
     chains::heads(graph, work, Count { bases: b }, p, 0);
@@ -89,7 +91,7 @@ fn look_all<W: Word>(work: &mut [W], b: Bases) -> usize
 {
     let mut tail: usize = 0;
     for v in 0..b.atoms + b.nodes {
-        if counters::get(work, b.dependencies + v) == 0 {
+        if words::at(work, b.dependencies + v) == 0 {
             words::put(work, b.queue + tail, v);
             tail += 1;
         }
@@ -131,6 +133,7 @@ pub enum NeedError {
     Work,
 }
 
+// For `?`; no derive makes it. Crate founded has the same over its own error.
 impl From<Refusal> for NeedError {
     ghost from_gives = { λ refusal e. e ≡ Refused refusal };
 
@@ -142,7 +145,7 @@ impl From<Refusal> for NeedError {
 // Refusals 1 to 9, then 11, then whether there is a closed walk.
 pub fn needed<W: Area>(graph: &[W], work: &mut [W]) -> Result<bool, NeedError>
     ensures result_value { outcome_of result ≡ outcome W.edition (W.numbers graph.now) (W.numbers work.old) }
-    ensures work_after { (W.numbers work.new) ≡ work_after W.edition (W.numbers graph.now) (W.numbers work.old) }
+    ensures work_after { W.numbers work.new ≡ work_after W.edition (W.numbers graph.now) (W.numbers work.old) }
     ensures variant { (yes : _) → outcome_of result ≡ loops yes → (yes ≡ true) ↔ ClosedWalk (theory_of (W.numbers graph.now)) }
 {
     checking::check(graph)?;

@@ -6,7 +6,7 @@ ghost use Rattle.theory.specs.Words.{theory_of};
 ghost use Rattle.theory.specs.Accepted.{Accepted};
 ghost use Rattle.area.specs.Layout.{bases_of, Based};
 ghost use Rattle.events.specs.Held.{Ctx, Held};
-ghost use Rattle.rows.specs.Rows.{Spanned, Named, Tables};
+ghost use Rattle.rows.specs.Rows.{Tables};
 ghost use Rattle.events.specs.Run.{Running, Ran};
 ghost use Rattle.theory.specs.Closure.{Mode};
 
@@ -15,6 +15,7 @@ use chains::Step;
 use words::Word;
 
 // One thing fewer that an entry waits for, and no branch on whether it waits at all; after the last one it is found, and goes on the queue.
+// (Counts and queue are words of lent memory; `tail` is the queue's length.)
 #[derive(Clone, Copy)]
 struct Settle {
     bases: Bases,
@@ -31,7 +32,7 @@ impl<W: Word> Step<W> for Settle {
         let b = self.bases;
         let n = words::at(work, b.dependencies + v);
         if n != 1 {
-            let one = (n > 0) as usize;
+            let one = usize::from(n > 0);
             words::put(work, b.dependencies + v, n - one);
             return tail;
         }
@@ -49,6 +50,8 @@ fn settle_in<W: Word>(graph: &[W], work: &mut [W], b: Bases, first: usize) -> us
 {
     let mut head: usize = 0;
     let mut tail = first;
+    // a queue: a turn may add to it, and a `for` fixes its end before the first turn
+    // (no walk shared with `components::follow`: what holds between the turns differs, a clause can't be over any predicate, and a trait for it would be longer)
     while head < tail {
         let v = words::at(work, b.queue + head);
         tail = rows::along(graph, work, b, Settle { bases: b }, v, tail);

@@ -26,7 +26,7 @@ use Rattle.theory.proofs.RowLaws.{row_last}
 use Rattle.theory.proofs.ConeLaws.{graph_cone}
 use Rattle.graph.specs.Kinds.{takes_operand}
 use Rattle.graph.specs.Layout.{NodeIn}
-use Rattle.graph.proofs.DecodeLaws.{the_nodes, the_kind, the_leaves}
+use Rattle.graph.proofs.DecodeLaws.{the_nodes, the_leaves}
 use Rattle.adjacency.specs.Tables.{edges_of}
 use Rattle.adjacency.specs.declared.Table.TheVariants.{ByHead}
 use Rattle.finishing.specs.Cursors.{body_vertex, atom_left, has_operand, node_left, node_first, left_of, first_of, Linked}
@@ -169,16 +169,16 @@ module _ (ws : List ℕ) where
 
     -- a node's vertex v, where there are m atoms
     module _ {v : ℕ} (l : v < vertices (theory_of ws)) {m : ℕ} (em : m ≡ (theory_of ws).atoms) (high : m ≤ v) where
-      pub node_in : NodeIn ws (v - m)
+      pub node_low : v - m < (theory_of ws).nodes
       unfolding vertices
-      node_in = record { size = acc.size; below = let e = the_nodes ws in omega arith }
+      node_low = omega arith
 
-      pub node_kind : {k : ℕ} → k ≡ get_or ws (node_at (v - m)) 0 → k ≤ 7
-      node_kind e = let h = acc.kind_low (v - m) node_in.below in omega arith
+      pub node_in : NodeIn ws (v - m)
+      node_in = record { size = acc.size; below = let l = node_low in let e = the_nodes ws in omega arith }
 
-      -- what the kind table says of it
-      pub node_says : {k : ℕ} {r : Bool} → k ≡ get_or ws (node_at (v - m)) 0 → r ≡ takes_operand (kind_of k) → r ≡ has_operand ws (v - m)
-      node_says e q = q ∙ ap (λ (k : ℕ). takes_operand (kind_of k)) e ∙ ap takes_operand (sym (the_kind ws (v - m)))
+      -- as the reader of records has its kind
+      pub node_says : (k : ℕ) {r : Bool} → kind_of k ≡ (theory_of ws).kind (v - m) → r ≡ takes_operand (kind_of k) → has_operand ws (v - m) ≡ r
+      node_says k e q = sym (q ∙ ap takes_operand e)
 
       first_is : {t : Bool} → has_operand ws (v - m) ≡ t → first_of ws v ≡ node_first ws t (v - m)
       first_is q =
@@ -188,9 +188,6 @@ module _ (ws : List ℕ) where
       pub first_operand : has_operand ws (v - m) ≡ true → first_of ws v ≡ 1
       unfolding node_first
       first_operand q = first_is q
-
-      pub first_some : has_operand ws (v - m) ≡ true → {c : ℕ} → c ≡ first_of ws v → c ≢ 0
-      first_some q e z = let f = first_operand q in omega arith
 
       pub first_leaf : has_operand ws (v - m) ≡ false → first_of ws v ≡ get_or ws (node_at (v - m) + 2) 0
       unfolding node_first

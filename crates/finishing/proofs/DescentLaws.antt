@@ -1,10 +1,10 @@
--- One walk after another (`walked_on`, `onward_step`, `step_onward`); the walk from one root (`root_entered`, `descended`), and from every root
+-- One walk after another (`walked_on`, `onward_step`, `step_onward`); the walk from one root (`root_new`, `descended`), and from every root
 -- (`walk_start`, `roots_more`, `walk_end`).
 use mathlib.Core.Path.{◌≡◌, sym, ap, ◌∙◌, subst}
 use mathlib.Core.Logic.{◌⊎◌, inl, inr, ◌≢◌}
 use mathlib.Core.Bool.{true, false}
 use mathlib.Core.List.{List}
-use Prim.Native.Nat.{ℕ, ◌+◌, ◌≤◌, ◌<◌}
+use Prim.Native.Nat.{ℕ, ◌+◌, ◌<◌}
 use native.Mathlib.Omega.{arith}
 use native.Mathlib.Decide.{ℕ_discrete}
 use Rattle.theory.specs.Sets.{Is}
@@ -18,7 +18,7 @@ use Rattle.area.specs.declared.Bases.{Bases}
 use Rattle.area.specs.Views.{mark_in}
 use Rattle.finishing.specs.Cursors.{left_of, Linked}
 use Rattle.finishing.specs.Finished.{Ready, Marked, Finished}
-use Rattle.finishing.specs.Walking.{cursor_in, Walking, discovered, Entered, known, new, Walked, Onward, Stepped, Descended}
+use Rattle.finishing.specs.Walking.{cursor_in, Walking, discovered, Walked, Onward, Stepped, Descended}
 use Rattle.finishing.proofs.CursorLaws.{first_all, first_linked}
 use Rattle.finishing.proofs.PlaceLaws.{kept_none, kept_on, ready_kept}
 use Rattle.finishing.proofs.ViewLaws.{cursor_unmet, found_here, found_marks, found_cursors, found_stack, found_order, found_kept}
@@ -66,7 +66,7 @@ module _ {ws : List ℕ} {b : Bases} where
       same : (u : ℕ) → u < vertices (theory_of ws) → cursor_in ws b (discovered ws b w root 0) u ≡ cursor_in ws b w u
       same = found_cursors h.ready root low 0 room (λ e. omega arith)
 
-      root_new : {ed : Edition} → Accepted ed ws → Walked ws b w (discovered ws b w root 0) 1 done
+      pub root_new : {ed : Edition} → Accepted ed ws → Walked ws b w (discovered ws b w root 0) 1 done
       unfolding upto
       root_new acc = record {
         walking = record {
@@ -86,21 +86,12 @@ module _ {ws : List ℕ} {b : Bases} where
           met u l n q (yes e) = n (ap (mark_in b w) e ∙ unmet)
           met u l n q (no m) = n (sym (found_marks h.ready root low 0 room u l m) ∙ q)
 
-    module _ {ed : Edition} (acc : Accepted ed ws) where
-      -- with t on the stack then
-      pub root_entered : {w₁ : List ℕ} {t : ℕ} → Entered ws b w w₁ root t → Walked ws b w w₁ t done × (mark_in b w₁ root ≢ 1)
-      root_entered {w₁} {t} (known n e q) =
-          subst (λ (l : List ℕ). Walked ws b w l t done × (mark_in b l root ≢ 1)) (sym e) (subst (λ (k : ℕ). Walked ws b w w k done) (sym q) (walked_none h), n)
-      root_entered {w₁} {t} (new m e q) =
-          subst (λ (l : List ℕ). Walked ws b w l t done × (mark_in b l root ≢ 1)) (sym e)
-          (subst (λ (k : ℕ). Walked ws b w (discovered ws b w root 0) k done) (sym q) (root_new m acc), λ z. let f = found_here h.ready root low 0 (omega arith) in omega arith)
-
-      pub descended : {w₁ w' : List ℕ} {t top n : ℕ} → Entered ws b w w₁ root t → Walked ws b w₁ w' top n → top ≤ 0 → Descended ws b w w' root n
-      descended {w₁} {w'} {t} {top} {n} m s z =
-          let e : top ≡ 0 = omega arith in
-          let g = subst (λ (k : ℕ). Walked ws b w₁ w' k n) e s in
-          let r = root_entered m in
-          record { walked = walked_on r.0 g; passed = g.settled root low r.1 }
+    -- the stack is empty again
+    pub descended : {ed : Edition} → Accepted ed ws → mark_in b w root ≡ 1 → {w' : List ℕ} {n : ℕ} → Walked ws b (discovered ws b w root 0) w' 0 n → Descended ws b w w' root n
+    descended acc m g = record {
+      walked = walked_on (root_new m acc) g;
+      passed = g.settled root low (λ z. let f = found_here h.ready root low 0 (omega arith) in omega arith);
+    }
 
   -- ---- every root
 

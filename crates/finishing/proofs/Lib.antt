@@ -6,3 +6,4 @@ pub mod ViewLaws
 pub mod StepLaws
 pub mod DescentLaws
 pub mod PassedLaws
+pub mod EntryLaws

@@ -12,7 +12,7 @@ use native.Mathlib.Omega.{arith}
 use lib.ListN.{length, get_or, set, take}
 use lib.Seq.{slice, set-get_or, length-slice, get_or-take, get_or-drop}
 use Rattle.theory.specs.Sets.{Mem}
-use Rattle.theory.specs.Words.{node_at, producer_at, value_of, next_of, theory_of}
+use Rattle.theory.specs.Words.{node_at, value_of, next_of, theory_of}
 use Rattle.theory.specs.Links.{MeetsOnce}
 use Rattle.theory.specs.Rows.{entries, by_head}
 use Rattle.theory.specs.Accepted.{Edition, Accepted}
@@ -21,7 +21,7 @@ use Rattle.theory.proofs.CountLaws.{sum_one}
 use Rattle.theory.proofs.ChainLaws.{once_link, once_next}
 use Rattle.theory.proofs.RowLaws.{row_item, rows_length, by_head_few}
 use Rattle.graph.specs.Layout.{ProducerIn}
-use Rattle.graph.proofs.DecodeLaws.{the_nodes, the_producers, the_operand, the_body}
+use Rattle.graph.proofs.DecodeLaws.{the_nodes, the_producers, the_operand}
 use Rattle.area.specs.declared.Bases.{Bases}
 use Rattle.adjacency.specs.Tables.{start_at, edges_of}
 use Rattle.adjacency.specs.declared.Table.TheVariants.{ByHead}
@@ -89,9 +89,6 @@ module _ {ed : Edition} {ws : List ℕ} (acc : Accepted ed ws) {b : Bases} {w : 
           omega arith
 
       module _ (more : s + c < t) where
-        pub entry_place : s + c < length w
-        entry_place = let e = ends in omega arith
-
         shorter : c < length (entries v (edges_of (theory_of ws) ByHead))
         shorter = let l = row_length in omega arith
 
@@ -107,30 +104,23 @@ module _ {ed : Edition} {ws : List ℕ} (acc : Accepted ed ws) {b : Bases} {w : 
           pub producer_in : ProducerIn ws p
           producer_in = record { size = acc.size; below = let l = producer_low in let e = the_producers ws in omega arith }
 
-          module _ {body : ℕ} (eb : body ≡ get_or ws (producer_at ws p) 0) where
-            next_is : {l : List ℕ} → body_vertex ws body ≡ l → left_of ws v (get_or w (b.dependencies + v) 0) ≡ l ++ left_of ws v (c + 1)
-            next_is e =
-                ap (left_of ws v) (sym ec) ∙ row_next ws v c atom_low shorter producer_is
-                ∙ ap (λ (l : List ℕ). l ++ left_of ws v (c + 1)) (ap (body_vertex ws) (the_body ws p ∙ sym eb) ∙ e)
+          next_is : {l : List ℕ} → body_vertex ws ((theory_of ws).body p) ≡ l → left_of ws v (get_or w (b.dependencies + v) 0) ≡ l ++ left_of ws v (c + 1)
+          next_is e = ap (left_of ws v) (sym ec) ∙ row_next ws v c atom_low shorter producer_is ∙ ap (λ (l : List ℕ). l ++ left_of ws v (c + 1)) e
 
-            pub body_fits : body ≢ 0 → b.atoms + (body - 1) < b.atoms + b.nodes
-            body_fits z =
-                let e : (theory_of ws).body p ≡ suc (body - 1) = the_body ws p ∙ sym eb ∙ omega arith in
-                let l = acc.well_formed.body_low p (body - 1) producer_low e in
-                let f = k.ready.based.nodes in let g = the_nodes ws in
-                omega arith
+          pub atom_fact : (theory_of ws).body p ≡ 0 → left_of ws v (get_or w (b.dependencies + v) 0) ≡ left_of ws v (c + 1)
+          unfolding body_vertex
+          atom_fact z = next_is (ap (body_vertex ws) z)
 
-            pub atom_fact : body ≡ 0 → left_of ws v (get_or w (b.dependencies + v) 0) ≡ left_of ws v (c + 1)
+          module _ {n : ℕ} (e : (theory_of ws).body p ≡ suc n) where
+            pub body_fits : b.atoms + n < b.atoms + b.nodes
+            body_fits = let l = acc.well_formed.body_low p n producer_low e in let f = k.ready.based.nodes in let g = the_nodes ws in omega arith
+
+            vertex_is : body_vertex ws ((theory_of ws).body p) ≡ (b.atoms + n) ∷ []
             unfolding body_vertex
-            atom_fact z = next_is (ap (body_vertex ws) z)
+            vertex_is = ap (body_vertex ws) e ∙ ap (λ (a : ℕ). (a + n) ∷ []) (sym (atoms_are k.ready.based))
 
-            vertex_is : (m : ℕ) → m ≢ 0 → body_vertex ws m ≡ (b.atoms + (m - 1)) ∷ []
-            unfolding body_vertex
-            vertex_is zero z = absurd (z refl)
-            vertex_is (suc m) z = let e : (theory_of ws).atoms + m ≡ b.atoms + (suc m - 1) = let q = atoms_are k.ready.based in omega arith in ap (λ (x : ℕ). x ∷ []) e
-
-            pub atom_body : body ≢ 0 → Looked ws b w (set w (b.dependencies + v) (c + 1)) v (Some (b.atoms + (body - 1)))
-            atom_body z = record { moved = record { cursor = c + 1; stored = refl; linked = row_linked (c + 1) }; took = next_is (vertex_is body z) }
+            pub atom_body : Looked ws b w (set w (b.dependencies + v) (c + 1)) v (Some (b.atoms + n))
+            atom_body = record { moved = record { cursor = c + 1; stored = refl; linked = row_linked (c + 1) }; took = next_is vertex_is }
 
   -- ---- a node
 

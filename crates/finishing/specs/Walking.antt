@@ -1,6 +1,6 @@
 -- How the words hold the first walk: marks, cursors, the stack from `queue` on and the finished vertices from `body_nodes` on; and what each
 -- function of the walk does to them.
-use Rattle.std.specs.Prelude.{◌≡◌, ◌≢◌, cond, List, Option, Some, None, ℕ, ◌+◌, ◌-◌, ◌≤◌, ◌<◌, eqb, length, get_or, set}
+use Rattle.std.specs.Prelude.{◌≡◌, ◌≢◌, Bool, cond, List, Option, Some, None, ℕ, ◌+◌, ◌-◌, ◌≤◌, ◌<◌, eqb, length, get_or, set}
 use Rattle.theory.specs.Sets.{sum_below}
 use Rattle.theory.specs.Words.{theory_of}
 use Rattle.theory.specs.Edges.{vertices, in_graph, cone_preds}
@@ -9,7 +9,7 @@ use Rattle.area.specs.declared.Bases.{Bases}
 use Rattle.area.specs.Views.{mark_of, mark_in}
 use Rattle.finishing.specs.Latest.{latest}
 use Rattle.finishing.specs.Finished.{Kept, Ready}
-use Rattle.finishing.specs.Cursors.{left_of, first_of, Linked, Took}
+use Rattle.finishing.specs.Cursors.{has_operand, left_of, first_of, Linked, Took}
 
 module _ (ws : List ℕ) (b : Bases) where
   -- the cursor of v: its word once v is met, and before that the one that its word is to get
@@ -51,6 +51,16 @@ module _ (ws : List ℕ) (b : Bases) where
     pub some : 0 < top
     pub top_is : v ≡ get_or w (b.queue + (top - 1)) 0
 
+  -- of some walk
+  abbrev pub Topmost : List ℕ → ℕ → Type 0
+  Topmost w v = (top : ℕ) × (done : ℕ) × OnTop w v top done
+
+  -- and is a node, which takes an operand or not
+  pub record TopNode (w : List ℕ) (v : ℕ) (operand : Bool) : Type 0 where
+    pub top : Topmost w v
+    pub high : b.atoms ≤ v
+    pub kind : has_operand ws (v - b.atoms) ≡ operand
+
   -- v is met, with `top` others on the stack
   abbrev pub discovered : List ℕ → (v top : ℕ) → List ℕ
   discovered w v top = set (set (set w (mark_of b v) 2) (b.dependencies + v) (first_of ws v)) (b.queue + top) v
@@ -59,11 +69,6 @@ module _ (ws : List ℕ) (b : Bases) where
     pub ready : Ready ws b w
     pub low : v < vertices (theory_of ws)
     pub room : top < vertices (theory_of ws)
-
-  -- a root is met, unless it is known, with r vertices on the stack then
-  pub data Entered (w w' : List ℕ) (root r : ℕ) : Type 0 where
-    known : mark_in b w root ≢ 1 → w' ≡ w → r ≡ 0 → Entered w w' root r
-    new : mark_in b w root ≡ 1 → w' ≡ discovered w root 0 → r ≡ 1 → Entered w w' root r
 
   -- the walk from w to w'
   pub record Walked (w w' : List ℕ) (top done : ℕ) : Type 0 where
@@ -88,13 +93,13 @@ module _ (ws : List ℕ) (b : Bases) where
   Fresh w None = Unit {0}
 
   -- the walk, were c the cursor of v: what is before c leads to vertices that are met, or nowhere
-  pub record Passed (w : List ℕ) (v c top done : ℕ) : Type 0 where
-    pub onward : Onward w (set w (b.dependencies + v) c) top done done
+  pub record Passed (w : List ℕ) (v c : ℕ) : Type 0 where
+    pub onward : (top done : ℕ) → OnTop w v top done → Onward w (set w (b.dependencies + v) c) top done done
 
   -- that is passed over, and the next entry is r
   pub record Found (w w' : List ℕ) (v : ℕ) (r : Option ℕ) : Type 0 where
     pub cursor : ℕ
-    pub passed : (top done : ℕ) → OnTop w v top done → Passed w v cursor top done
+    pub passed : Passed w v cursor
     pub looked : Looked (set w (b.dependencies + v) cursor) w' v r
     pub fresh : Fresh w' r
 

@@ -46,13 +46,6 @@ graph_number (Leaf k) = (refl, refl)
 graph_number (Head k) = (refl, refl)
 graph_number Entries = (refl, refl)
 
--- no refusal is success
-pub call_some : (e : CallError) → eqb (turned_as e).number 0 ≡ false
-call_some (CallError.Refused e) = (graph_number e).0
-call_some CallError.Lengths = refl
-call_some CallError.Work = refl
-call_some (CallError.Absorbed n) = refl
-
 module _ (ed : Edition) (ws : List ℕ) (s : Set) (output work : List ℕ) where
   -- the rows after the graph's
   late : (lengths area : Bool) (p : ℕ) → Answer

@@ -23,6 +23,7 @@ pub enum CallError {
     Absorbed(usize),
 }
 
+// For `?`; no derive makes it. Crate cycles has the same over its own error.
 impl From<Refusal> for CallError {
     ghost from_gives = { λ refusal e. e ≡ Refused refusal };
 
@@ -42,14 +43,15 @@ fn bad_mask(count: usize, words: usize) -> bool
 fn hand_out<W: Word>(words: &mut [W], from: usize, atoms: usize, output: &mut [u64])
     requires { (from + atoms ≤ length (W.numbers words.old)) × (length output.old ≡ words_of atoms) }
     ensures output_after { output.new ≡ pack atoms (λ a. eqb (get_or (W.numbers words.old) (from + a) 0) 1) }
-    ensures words_after { (W.numbers words.new) ≡ replicate (length (W.numbers words.old)) 0 }
+    ensures words_after { W.numbers words.new ≡ replicate (length (W.numbers words.old)) 0 }
 {
     let to = from + atoms;
     mask::pack_flags(&words[from..to], output);
     area::wipe(words);
 }
 
-// Preparation after refusals 1 to 11.
+// Preparation after refusals 1 to 11. The pass below has the same steps over its own stage, its own row of flags and its own promise; one function over a closure would need, beside these, a
+// contract of what the closure leaves behind its `&mut` and for which set, so it would be longer than the two.
 fn prepare_accepted<W: Area>(
     graph: &[W],
     output: &mut [u64],
@@ -72,7 +74,7 @@ fn prepare_accepted<W: Area>(
     }
 }
 
-// Preparation: the cyclic atoms.
+// Preparation: the cyclic atoms. Refusal 10 asks for other lengths here than in the pass.
 pub fn prepare<W: Area>(graph: &[W], output: &mut [u64], work: &mut [W]) -> Result<(), CallError>
     ensures { Prepares W.edition (W.numbers graph.now) output.old (W.numbers work.old) output.new (W.numbers work.new) result }
 {
@@ -87,18 +89,13 @@ pub fn prepare<W: Area>(graph: &[W], output: &mut [u64], work: &mut [W]) -> Resu
 }
 
 // Refusal 10 of the pass.
+#[tactic(auto, unfolding(crate::specs::Answers::bad_lengths))]
 fn bad_lengths<W: Word>(graph: &[W], never: usize, atom_never: usize, output: usize) -> bool
     requires { 5 ≤ length (W.numbers graph.now) }
     ensures { result ≡ bad_lengths (W.numbers graph.now) never atom_never output }
 {
     let atoms = graph::atoms(graph);
-    if bad_mask(graph::nodes(graph), never) {
-        return true;
-    }
-    if bad_mask(atoms, atom_never) {
-        return true;
-    }
-    bad_mask(atoms, output)
+    bad_mask(graph::nodes(graph), never) || bad_mask(atoms, atom_never) || bad_mask(atoms, output)
 }
 
 // The pass after refusals 1 to 11.

@@ -44,14 +44,6 @@ module _ (ws : List ℕ) where
   unfolding theory_of
   the_heads p = refl
 
--- what is said of the kind that is read is said of the node's kind
-pub kind_says : {X : Type 0} (says : Kind → X) (ws : List ℕ) (n : ℕ) {k : ℕ} {r : X} → k ≡ get_or ws (node_at n) 0 → r ≡ says (kind_of k) → says ((theory_of ws).kind n) ≡ r
-kind_says says ws n e q = ap says (the_kind ws n) ∙ ap (λ (k : ℕ). says (kind_of k)) (sym e) ∙ sym q
-
--- where the links begin
-pub from_is : (ws : List ℕ) {n p : ℕ} → n ≡ get_or ws 2 0 → p ≡ get_or ws 3 0 → LinksFrom ws (5 + 3 * n + 2 * p)
-from_is ws e f = record { is = omega arith }
-
 -- what a reader of the graph's words finds, told where the links begin, is what the links have
 module _ {ws : List ℕ} {from : ℕ} (at : LinksFrom ws from) where
   pub value_of_lem : (l : ℕ) {v : ℕ} → v ≡ value_in ws from l → 0 < l → v ≡ value_of ws l

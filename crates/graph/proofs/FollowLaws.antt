@@ -1,31 +1,23 @@
--- One chain, followed link by link with its entries counted.
+-- One step of a follower along its chain.
 use mathlib.Core.Path.{◌≡◌, ap, ◌∙◌}
-use mathlib.Core.List.{List}
-use Prim.Native.Nat.{ℕ, ◌+◌, ◌≤◌, ◌<◌}
+use mathlib.Core.List.{List, [], ◌∷◌}
+use Prim.Native.Nat.{ℕ}
 use native.Mathlib.Omega.{arith}
-use lib.ListN.{length, get_or}
-use Rattle.theory.specs.Words.{next_of, chain}
-use Rattle.theory.specs.Links.{MeetsOnce}
-use Rattle.theory.proofs.ChainLaws.{once_next, chain_end, chain_step, chain_falls, chain_few}
+use Rattle.theory.specs.Words.{chain}
+use Rattle.theory.proofs.ChainLaws.{once_next, once_link, chain_end, chain_step}
+use Rattle.graph.specs.Layout.{LinkIn, Following, value_in, next_in}
+use Rattle.graph.proofs.DecodeLaws.{value_of_lem, next_of_lem, link_within}
 
--- n entries come before link l
-pub record Counted (ws : List ℕ) (first n l : ℕ) : Type 0 where
-  pub once : MeetsOnce ws l
-  pub counted : n + length (chain ws l) ≡ length (chain ws first)
+pub follow_end : (ws : List ℕ) {l : ℕ} → l ≡ 0 → chain ws l ≡ []
+follow_end ws z = ap (chain ws) z ∙ chain_end ws
 
-pub counted_none : {ws : List ℕ} {first : ℕ} → MeetsOnce ws first → Counted ws first 0 first
-counted_none e = record { once = e; counted = omega arith }
+module _ {ws : List ℕ} {from l : ℕ} (f : Following ws from l) (z : l ≡ 0 → ⊥) where
+  pub follow_link : LinkIn ws from l
+  follow_link = link_within f.begin f.size (omega arith) (once_link ws f.once)
 
-module _ {ws : List ℕ} {first n l : ℕ} (c : Counted ws first n l) where
-  pub counted_end : l ≡ 0 → n ≡ length (chain ws first)
-  counted_end z = let e = ap length (ap (chain ws) z ∙ chain_end ws) in let k = c.counted in omega arith
+  module _ {m : ℕ} (e : m ≡ next_in ws from l) where
+    pub follow_step : {v : ℕ} → v ≡ value_in ws from l → chain ws l ≡ v ∷ chain ws m
+    follow_step d = rw (value_of_lem f.begin l d (omega arith)) (rw (next_of_lem f.begin l e (omega arith)) (chain_step ws f.once z))
 
-  pub counted_few : n ≤ get_or ws 4 0
-  counted_few = let k = c.counted in let m = chain_few ws first in omega arith
-
-  module _ (z : l ≡ 0 → ⊥) {m : ℕ} (e : m ≡ next_of ws l) where
-    pub counted_less : length (chain ws m) < length (chain ws l)
-    counted_less = rw e (chain_falls ws c.once z)
-
-    pub counted_next : Counted ws first (n + 1) m
-    counted_next = let h = ap length (chain_step ws c.once z) in let k = c.counted in record { once = rw e (once_next ws c.once z); counted = rw e (omega arith) }
+    pub follow_next : Following ws from m
+    follow_next = record { size = f.size; begin = f.begin; once = rw (next_of_lem f.begin l e (omega arith)) (once_next ws f.once z) }

@@ -1,6 +1,7 @@
 -- Where chains begin, and what the accessors ask of the words.
 use Rattle.std.specs.Prelude.{◌≡◌, List, ℕ, ◌+◌, ◌-◌, ◌*◌, ◌≤◌, ◌<◌, length, get_or}
 use Rattle.theory.specs.Words.{node_at, producer_at}
+use Rattle.theory.specs.Links.{MeetsOnce}
 use Rattle.theory.specs.Accepted.{size_of}
 
 -- the first link of a node's leaves, of a producer's heads
@@ -33,3 +34,9 @@ value_in ws from l = get_or ws (from + 2 * l - 2) 0
 
 unfoldable pub next_in : List ℕ → (from l : ℕ) → ℕ
 next_in ws from l = get_or ws (from + 2 * l - 1) 0
+
+-- what one who follows a chain stands on: the words have their size, the link records begin at word `from`, and the chain from l meets no link twice
+pub record Following (ws : List ℕ) (from l : ℕ) : Type 0 where
+  pub size : length ws ≡ size_of ws
+  pub begin : LinksFrom ws from
+  pub once : MeetsOnce ws l

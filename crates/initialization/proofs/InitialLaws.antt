@@ -12,7 +12,7 @@ use Rattle.theory.specs.Edges.{preds}
 use Rattle.theory.specs.Theory.{Kind, False, Atom, And, Or, Opaque, Absorbed}
 use Rattle.theory.specs.Closure.{Mode, dead, free, single, every}
 use Rattle.theory.specs.Founded.{cyclic, cyclic_cone}
-use Rattle.theory.specs.Words.{kind_of, node_at, theory_of}
+use Rattle.theory.specs.Words.{theory_of}
 use Rattle.theory.specs.Accepted.{Edition, Accepted}
 use Rattle.theory.specs.Pass.{live, kind_mode, node_mode, pass_mode}
 use Rattle.theory.specs.Starting.{waits}
@@ -68,12 +68,9 @@ module _ {ed : Edition} {ws : List ℕ} (acc : Accepted ed ws) (n : ℕ) where
   unfolding cyclic_cone theory_of
   cone_node i = record { size = acc.size; below = cone_bound (theory_of ws) (λ p. any (cyclic (theory_of ws)) ((theory_of ws).heads p)) n i }
 
-  pub kind_in : Is (cyclic_cone (theory_of ws) n) → {k : ℕ} → k ≡ get_or ws (node_at n) 0 → k ≤ 7
-  kind_in i e = rw e (acc.kind_low n (cone_node i).below)
-
-  pub operand_in : Is (cyclic_cone (theory_of ws) n) → {k a : ℕ} → k ≡ get_or ws (node_at n) 0 → takes_operand (kind_of k) ≡ true → a ≡ get_or ws (node_at n + 1) 0 → a < get_or ws 1 0
-  unfolding theory_of takes_operand
-  operand_in i e o q = rw q (acc.well_formed.operand_low n (cone_node i).below (go (kind_of (get_or ws (node_at n) 0)) (rw e at o)))
+  pub operand_in : Is (cyclic_cone (theory_of ws) n) → takes_operand ((theory_of ws).kind n) ≡ true → (theory_of ws).operand n < (theory_of ws).atoms
+  unfolding takes_operand theory_of
+  operand_in i o = acc.well_formed.operand_low n (cone_node i).below (go ((theory_of ws).kind n) o)
     where
       go : (k : Kind) → takes_operand k ≡ true → k ≡ Atom
       go False q = clash q refl
@@ -88,8 +85,8 @@ module _ {ed : Edition} {ws : List ℕ} (acc : Accepted ed ws) (n : ℕ) where
   leaves_few i = let h = sum_one (get_or ws 2 0) (λ m. length ((theory_of ws).leaves m)) n (cone_node i).below in let k = acc.leaf_total in omega arith
 
   -- by the kind table, for an uncut node whose kind is k
-  pub initial_uncut : Is (cyclic_cone (theory_of ws) n) → (never atom_never : Set) → never n ≡ false → {k : ℕ} → k ≡ get_or ws (node_at n) 0 → {starts operand one all : Bool}
-      → starts_true (kind_of k) ≡ starts → takes_operand (kind_of k) ≡ operand → waits_for_one (kind_of k) ≡ one → waits_for_all (kind_of k) ≡ all
+  pub initial_uncut : Is (cyclic_cone (theory_of ws) n) → (never atom_never : Set) → never n ≡ false → {k : Kind} → k ≡ (theory_of ws).kind n → {starts operand one all : Bool}
+      → starts_true k ≡ starts → takes_operand k ≡ operand → waits_for_one k ≡ one → waits_for_all k ≡ all
       → initial_of (by_table starts operand one all (cyclic (theory_of ws) ((theory_of ws).operand n)) (atom_never ((theory_of ws).operand n))) (length ((theory_of ws).leaves n)) ≡ initial_at ws never atom_never n
   unfolding node_mode theory_of
   initial_uncut i never atom_never u e s o q a =

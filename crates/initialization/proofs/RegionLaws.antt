@@ -1,13 +1,12 @@
 -- Every word outside a region stays, and with the words behind the queue what their lists say.
-use mathlib.Core.Path.{◌≡◌, refl, sym, ap, ◌∙◌}
-use mathlib.Core.List.{List, ◌∷◌}
-use Prim.Native.Nat.{ℕ, ◌+◌, ◌-◌, ◌≤◌, ◌<◌}
+use mathlib.Core.Path.{◌≡◌, refl, ap, ◌∙◌}
+use mathlib.Core.List.{List}
+use Prim.Native.Nat.{ℕ, ◌+◌, ◌≤◌, ◌<◌}
 use native.Mathlib.Omega.{arith}
-use lib.ListN.{get_or, set, drop, length-set}
-use lib.Seq.{get_or-drop, take-set-le, drop-set-lt}
-use Rattle.theory.specs.Sets.{Set, Mem}
+use lib.ListN.{set, drop, length-set}
+use lib.Seq.{take-set-le, drop-set-lt}
+use Rattle.theory.specs.Sets.{Set}
 use Rattle.theory.specs.Prefix.{upto}
-use Rattle.theory.proofs.PrefixLaws.{upto_turn, upto_mem}
 use Rattle.area.specs.declared.Bases.{Bases}
 use Rattle.area.specs.Layout.{Laid}
 use Rattle.area.proofs.PartLaws.{behind_more, behind_at}
@@ -23,17 +22,6 @@ outside_then p q = record { size = q.size ∙ p.size; before = q.before ∙ p.be
 
 pub outside_set : (from to : ℕ) (w : List ℕ) (i x : ℕ) → from ≤ i → i < to → Outside from to w (set w i x)
 outside_set from to w i x h k = record { size = length-set w i x; before = take-set-le from w i x h; after = drop-set-lt to w i x k }
-
--- entry i - 1 of a list in words that are the same: the last of its first i
-module _ (base m : ℕ) (w₀ w : List ℕ) (e : drop m w ≡ drop m w₀) (h : m ≤ base) {i x : ℕ} (p : 0 < i) (ex : x ≡ get_or w (base + (i - 1)) 0) where
-  entry : x ≡ get_or (drop base w₀) (i - 1) 0
-  entry = ex ∙ behind_at m w₀ w e (base + (i - 1)) (omega arith) ∙ sym (get_or-drop base w₀ (i - 1) 0)
-
-  pub listed_turn : upto i (drop base w₀) ≡ x ∷ upto (i - 1) (drop base w₀)
-  listed_turn = rw entry (upto_turn i (drop base w₀) p)
-
-  pub listed_mem : (n : ℕ) → i ≤ n → Mem x (upto n (drop base w₀))
-  listed_mem n l = rw entry (upto_mem n (i - 1) (drop base w₀) (omega arith))
 
 -- ---- what the lists behind the queue say stays with them
 

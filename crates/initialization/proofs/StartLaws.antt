@@ -1,8 +1,8 @@
--- The start over the work area: the beginning (`starts`), a head of a fact (`head_passes`, `head_pushes`), where the vertices fit a word too (`fitting_follows`, `drives_fitting` and back), a node by its start
--- state (`inactive_rests`, `true_pushes`, `awaiting_pushes`, `awaiting_waits`), and the end (`begun`).
+-- The start over the work area: a head of a fact (`head_passes`, `head_pushes`), a fact (`fact_accepted`, `fact_follows`, `fact_drives`), a node of the cone by its start state (`inactive_rests`,
+-- `true_pushes`, `awaiting_pushes`, `awaiting_waits`), and the parts one after the other (`facts_follow`, `nodes_follow`, `begun`).
 use mathlib.Core.Path.{◌≡◌, refl, sym, ap, ◌∙◌, subst}
 use mathlib.Core.List.Memᴰ
-use mathlib.Core.List.{List, [], ◌∷◌, ◌++◌, map, append-nil}
+use mathlib.Core.List.{List, [], ◌∷◌, map}
 use Prim.Native.Nat.{ℕ, ◌+◌, ◌≤◌, ◌<◌}
 use native.Mathlib.Omega.{arith}
 use lib.ListN.{length, set, drop, length-set}
@@ -18,6 +18,7 @@ use Rattle.theory.specs.Prefix.{upto}
 use Rattle.theory.specs.Pass.{pass_mode}
 use Rattle.theory.specs.Starting.{waits, first_count, Starting}
 use Rattle.theory.proofs.EdgeLaws.{cone_bound}
+use Rattle.theory.proofs.DriveLaws.{follows_all, drives_all}
 use Rattle.theory.proofs.PrefixLaws.{upto_length}
 use Rattle.theory.proofs.PassStartLaws.{pass_begin}
 use Rattle.theory.proofs.StartingLaws.{head_passed, head_room, head_found, node_low, node_room, node_idle, node_found, starting_end}
@@ -28,10 +29,10 @@ use Rattle.initialization.specs.declared.Initial.{Initial}
 use Rattle.initialization.specs.declared.Initial.TheVariants.{Inactive, Awaiting, True}
 use Rattle.area.specs.Views.{count_at, queued, as_vertices}
 use Rattle.initialization.specs.Regions.{cone_nodes, fact_rows, Prepared, Outside, Begun}
-use Rattle.initialization.specs.Start.{initial_at, Filled, Context, At, Fitting, pass_context, AtNodes}
+use Rattle.initialization.specs.Start.{initial_at, Filled, Context, At, Fitting, AtFacts, pass_context, AtNodes, AtCone, Stays}
 use Rattle.area.proofs.ViewLaws.{count_same, count_other, count_queue, push_count, push_queue}
 use Rattle.area.proofs.PartLaws.{behind_more}
-use Rattle.initialization.proofs.RegionLaws.{outside_none, outside_set, outside_then, cone_same, prepared_kept}
+use Rattle.initialization.proofs.RegionLaws.{flagged_kept, outside_none, outside_set, outside_then, cone_same, prepared_kept}
 use Rattle.initialization.proofs.InitialLaws.{told_dead, told_true, told_waits, told_fits}
 
 -- what a step goes by: vertex v has a count
@@ -40,55 +41,50 @@ pub record Ready (b : Bases) (w : List ℕ) (v : ℕ) : Type 0 where
   pub low : v < b.atoms + b.nodes
   pub long : b.end ≤ length w
 
--- the words behind the queue stay
-pub behind : {b : Bases} {n : ℕ} {w₀ w : List ℕ} {t₀ t : ℕ} {l₀ l : List ℕ} → Follows (At b) w₀ t₀ l₀ → Drives (At b) n w₀ t₀ l₀ w t l → drop b.body_nodes w ≡ drop b.body_nodes w₀
-behind f d = (d.keeps f.ctx f.more f.held).kept ∙ sym f.held.kept
-
-pub behind_nodes : {ws : List ℕ} {never atom_never : Set} {b : Bases} {n : ℕ} {w₀ w : List ℕ} {t₀ t : ℕ} {l₀ l : List ℕ}
-    → Follows (AtNodes ws never atom_never b) w₀ t₀ l₀ → Drives (AtNodes ws never atom_never b) n w₀ t₀ l₀ w t l → drop b.body_nodes w ≡ drop b.body_nodes w₀
-behind_nodes f d = (d.keeps f.ctx f.more f.held).at.kept ∙ sym f.held.at.kept
-
 -- ---- a head of a fact
 
-module _ {b : Bases} {w : List ℕ} {t a : ℕ} where
-  pub head_ready : Follows (At b) w t (a ∷ []) → Ready b w a
+module _ {lim : ℕ} {b : Bases} {w : List ℕ} {t a : ℕ} where
+  pub head_ready : Follows (Fitting lim b) w t (a ∷ []) → Ready b w a
   head_ready f =
-      let h = f.held in
+      let h = f.held.1 in
       let e = h.bound in
       let l = (h.starting.named a (Memᴰ.head refl)).0 in
       record { laid = h.laid; low = omega arith; long = h.long }
 
-  pub head_fits : Follows (At b) w t (a ∷ []) → 0 < count_at b w a → t < b.atoms + b.nodes
+  pub head_fits : Follows (Fitting lim b) w t (a ∷ []) → 0 < count_at b w a → t < b.atoms + b.nodes
   head_fits f p =
-      let h = f.held in
+      let h = f.held.1 in
       let e = h.bound in
       let l = head_room f.ctx.bound f.ctx.mode f.ctx.pred h.starting p in
       let k = upto_length t (drop b.queue w) in
       omega arith
 
-  pub head_passes : {n : ℕ} → count_at b w a ≡ 0 → Drives (At b) n w t (a ∷ []) w t []
+  pub head_passes : {n : ℕ} → count_at b w a ≡ 0 → Drives (Fitting lim b) n w t (a ∷ []) w t []
   head_passes z = record {
     frame = refl;
     size = refl;
-    keeps = λ c more h. record { laid = h.laid; bound = h.bound; long = h.long; kept = h.kept; starting = head_passed c.bound c.mode c.pred h.starting z };
+    keeps = λ c more q. let h = q.1 in (q.0, record { laid = h.laid; bound = h.bound; long = h.long; kept = h.kept; starting = head_passed c.bound c.mode c.pred h.starting z });
   }
 
-  pub head_pushes : Follows (At b) w t (a ∷ []) → 0 < count_at b w a
-      → Drives (At b) b.dependencies w t (a ∷ []) (set (set w (b.dependencies + a) 0) (b.queue + t) a) (t + 1) []
+  pub head_pushes : Follows (Fitting lim b) w t (a ∷ []) → 0 < count_at b w a
+      → Drives (Fitting lim b) b.dependencies w t (a ∷ []) (set (set w (b.dependencies + a) 0) (b.queue + t) a) (t + 1) []
   head_pushes f p = record {
     frame = out.before;
     size = out.size;
-    keeps = λ c more h. record {
-      laid = h.laid;
-      bound = h.bound;
-      long = let e = out.size in let k = h.long in omega arith;
-      kept = out.after ∙ h.kept;
-      starting = let e = h.bound in
-          rw (push_queue laid one long t a fits, count_queue laid w r.long a 0 r.low t)
-          (head_found c.bound c.mode c.pred h.starting p
-          (push_count laid one long t a fits a r.low ∙ count_same laid w r.long a 0 r.low)
-          (λ u l n. push_count laid one long t a fits u (omega arith) ∙ count_other laid w r.long a 0 r.low u n));
-    };
+    keeps = λ c more q. let h = q.1 in (
+      q.0,
+      record {
+        laid = h.laid;
+        bound = h.bound;
+        long = let e = out.size in let k = h.long in omega arith;
+        kept = out.after ∙ h.kept;
+        starting = let e = h.bound in
+            rw (push_queue laid one long t a fits, count_queue laid w r.long a 0 r.low t)
+            (head_found c.bound c.mode c.pred h.starting p
+            (push_count laid one long t a fits a r.low ∙ count_same laid w r.long a 0 r.low)
+            (λ u l n. push_count laid one long t a fits u (omega arith) ∙ count_other laid w r.long a 0 r.low u n));
+      },
+    );
   }
     where
       r : Ready b w a
@@ -113,24 +109,35 @@ module _ {b : Bases} {w : List ℕ} {t a : ℕ} where
           let j = fits in
           outside_then (outside_set b.dependencies b.body_nodes w (b.dependencies + a) 0 (omega arith) (omega arith)) (outside_set b.dependencies b.body_nodes one (b.queue + t) a (omega arith) (omega arith))
 
--- ---- where the vertices fit a word
+-- ---- a fact
 
-pub fits_word : {ed : Edition} {lim : ℕ} {ws : List ℕ} {b : Bases} {words : ℕ} → Holds ed lim → Accepted ed ws → Based ws words b → b.atoms + b.nodes ≤ lim
+-- the vertices fit a word
+fits_word : {ed : Edition} {lim : ℕ} {ws : List ℕ} {b : Bases} {words : ℕ} → Holds ed lim → Accepted ed ws → Based ws words b → b.atoms + b.nodes ≤ lim
 fits_word holds acc based = omega arith
 
-module _ {lim : ℕ} {b : Bases} {w : List ℕ} {t : ℕ} {l : List ℕ} where
-  pub fitting_follows : b.atoms + b.nodes ≤ lim → Follows (At b) w t l → Follows (Fitting lim b) w t l
-  fitting_follows fits f = record { ctx = f.ctx; more = f.more; held = (fits, f.held) }
+-- the words behind the queue stay, and the facts with them, whatever is met
+facts_behind : {ed : Edition} {lim : ℕ} {ws : List ℕ} {b : Bases} → Stays (AtFacts ed lim ws b) b.body_nodes
+facts_behind c w w' t t' l l' h h' = h'.at.1.kept ∙ sym h.at.1.kept
 
-  pub follows_fitting : Follows (Fitting lim b) w t l → Follows (At b) w t l
-  follows_fitting f = record { ctx = f.ctx; more = f.more; held = f.held.1 }
+pub facts_stay : {ed : Edition} {lim : ℕ} {ws : List ℕ} {b : Bases} → Laid b → Stays (AtFacts ed lim ws b) b.fact_rows
+facts_stay {b = b} laid c w w' t t' l l' h h' = behind_more b.body_nodes w w' (facts_behind c w w' t t' l l' h h') b.fact_rows (omega arith)
 
-  module _ {n : ℕ} {w' : List ℕ} {t' : ℕ} {l' : List ℕ} where
-    pub fitting_drives : Drives (At b) n w t l w' t' l' → Drives (Fitting lim b) n w t l w' t' l'
-    fitting_drives d = record { frame = d.frame; size = d.size; keeps = λ c more h. (h.0, d.keeps c more h.1) }
+module _ {ed : Edition} {lim : ℕ} {ws : List ℕ} {b : Bases} {w : List ℕ} {t p : ℕ} (f : Follows (AtFacts ed lim ws b) w t (p ∷ [])) where
+  pub fact_accepted : Accepted ed ws × (p < (theory_of ws).producers)
+  fact_accepted = (f.held.accepted, f.held.low p (Memᴰ.head refl))
 
-    pub drives_fitting : b.atoms + b.nodes ≤ lim → Drives (Fitting lim b) n w t l w' t' l' → Drives (At b) n w t l w' t' l'
-    drives_fitting fits d = record { frame = d.frame; size = d.size; keeps = λ c more h. (d.keeps c more (fits, h)).1 }
+  pub fact_follows : Follows (Fitting lim b) w t ((theory_of ws).heads p)
+  unfolding flat_map
+  fact_follows = record { ctx = f.ctx; more = flat_map (theory_of ws).heads f.more; held = f.held.at }
+
+pub fact_drives : {ed : Edition} {lim : ℕ} {ws : List ℕ} {b : Bases} {n : ℕ} {w w' : List ℕ} {t t' p : ℕ}
+    → Drives (Fitting lim b) n w t ((theory_of ws).heads p) w' t' [] → Drives (AtFacts ed lim ws b) n w t (p ∷ []) w' t' []
+unfolding flat_map
+fact_drives {ws = ws} d = record {
+  frame = d.frame;
+  size = d.size;
+  keeps = λ c more h. record { accepted = h.accepted; low = λ q m. h.low q (Memᴰ.tail m); at = d.keeps c (flat_map (theory_of ws).heads more) h.at };
+}
 
 -- ---- a node
 
@@ -191,26 +198,56 @@ module _ {ws : List ℕ} {never atom_never : Set} {b : Bases} {w : List ℕ} {t 
       rw (push_queue r.laid w r.long t v node_fits)
       (node_found (vertices (theory_of ws)) mode pred s e n (λ u l. push_count r.laid w r.long t v node_fits u (omega arith))))
 
--- by its start state i
-module _ {ed : Edition} {ws : List ℕ} (acc : Accepted ed ws) {never atom_never : Set} {b : Bases} {w : List ℕ} (base : Based ws (length w) b) {t : ℕ} (n : ℕ) (cone : Is (cyclic_cone (theory_of ws) n))
-    (f : Follows (AtNodes ws never atom_never b) w t ((b.atoms + n) ∷ [])) {i : Initial} (is : i ≡ initial_at ws never atom_never n) where
+-- ---- a node of the cone, by its start state i
+
+-- the words behind the queue stay, whatever is started
+pub nodes_stay : {ed : Edition} {ws : List ℕ} {never atom_never : Set} {b : Bases} → Stays (AtCone ed ws never atom_never b) b.body_nodes
+nodes_stay c w w' t t' l l' h h' = h'.at.at.kept ∙ sym h.at.at.kept
+
+module _ {ed : Edition} {ws : List ℕ} {never atom_never : Set} {b : Bases} {w : List ℕ} {t n : ℕ} (f : Follows (AtCone ed ws never atom_never b) w t (n ∷ [])) where
+  pub in_cone : Is (cyclic_cone (theory_of ws) n)
+  in_cone = f.held.cone n (Memᴰ.head refl)
+
+  vertex_follows : Follows (AtNodes ws never atom_never b) w t ((b.atoms + n) ∷ [])
+  vertex_follows = record { ctx = f.ctx; more = as_vertices b f.more; held = f.held.at }
+
+  pub vertex_ready : Ready b w (b.atoms + n)
+  vertex_ready = node_ready vertex_follows
+
+  pub vertex_fits : t < b.atoms + b.nodes
+  vertex_fits = node_fits vertex_follows
+
   abbrev Does : List ℕ → ℕ → Type 0
-  Does w' t' = Drives (AtNodes ws never atom_never b) b.dependencies w t ((b.atoms + n) ∷ []) w' t' []
+  Does w' t' = Drives (AtCone ed ws never atom_never b) b.dependencies w t (n ∷ []) w' t' []
 
-  pub inactive_rests : i ≡ Inactive → Does w t
-  inactive_rests e = node_rests f (told_dead acc never atom_never base n cone is e)
+  does : {w' : List ℕ} {t' : ℕ} → Drives (AtNodes ws never atom_never b) b.dependencies w t ((b.atoms + n) ∷ []) w' t' [] → Does w' t'
+  does {w'} {t'} d = record {
+    frame = d.frame;
+    size = d.size;
+    keeps = λ c more h. let k = d.keeps c (as_vertices b more) h.at in record {
+      accepted = h.accepted;
+      based = rw d.size h.based;
+      flagged = flagged_kept h.based.laid w w' (k.at.kept ∙ sym h.at.at.kept) h.flagged;
+      cone = λ m i. h.cone m (Memᴰ.tail i);
+      at = k;
+    };
+  }
 
-  pub true_pushes : i ≡ True → Does (set w (b.queue + t) (b.atoms + n)) (t + 1)
-  true_pushes e = let r = told_true acc never atom_never base n cone is e in node_pushes f r.0 r.1
+  module _ {i : Initial} (is : i ≡ initial_at ws never atom_never n) where
+    pub inactive_rests : i ≡ Inactive → Does w t
+    inactive_rests e = does (node_rests vertex_follows (told_dead f.held.accepted never atom_never f.held.based n in_cone is e))
 
-  pub awaiting_pushes : {k : ℕ} → i ≡ Awaiting k → k ≡ 0 → Does (set w (b.queue + t) (b.atoms + n)) (t + 1)
-  awaiting_pushes e z = let r = told_waits acc never atom_never base n cone is e in node_pushes f (r.0 ∙ z) r.1
+    pub true_pushes : i ≡ True → Does (set w (b.queue + t) (b.atoms + n)) (t + 1)
+    true_pushes e = let r = told_true f.held.accepted never atom_never f.held.based n in_cone is e in does (node_pushes vertex_follows r.0 r.1)
 
-  pub awaiting_waits : {k : ℕ} → i ≡ Awaiting k → (k ≡ 0 → ⊥) → Does (set w (b.dependencies + (b.atoms + n)) k) t
-  awaiting_waits {k} e z = node_awaits f (told_waits acc never atom_never base n cone is e).0 (omega arith)
+    pub awaiting_pushes : {k : ℕ} → i ≡ Awaiting k → k ≡ 0 → Does (set w (b.queue + t) (b.atoms + n)) (t + 1)
+    awaiting_pushes e z = let r = told_waits f.held.accepted never atom_never f.held.based n in_cone is e in does (node_pushes vertex_follows (r.0 ∙ z) r.1)
 
-  pub awaiting_fits : {k : ℕ} → i ≡ Awaiting k → k ≤ 1 + ed.entries
-  awaiting_fits e = told_fits acc never atom_never base n cone is e
+    pub awaiting_waits : {k : ℕ} → i ≡ Awaiting k → (k ≡ 0 → ⊥) → Does (set w (b.dependencies + (b.atoms + n)) k) t
+    awaiting_waits {k} e z = does (node_awaits vertex_follows (told_waits f.held.accepted never atom_never f.held.based n in_cone is e).0 (omega arith))
+
+    pub awaiting_fits : {k : ℕ} → i ≡ Awaiting k → k ≤ 1 + ed.entries
+    awaiting_fits e = told_fits f.held.accepted never atom_never f.held.based n in_cone is e
 
 -- ---- the beginning, from one part to the next, and the end
 
@@ -231,53 +268,58 @@ starts {ws = ws} acc never atom_never {b} {w} {nodes} {facts} base p filled = re
 }
 
 -- with the counts filled
-module _ {ed : Edition} {ws : List ℕ} (acc : Accepted ed ws) (never atom_never : Set) {b : Bases} {w w₁ : List ℕ} {nodes facts : ℕ} (base : Based ws (length w) b) (p : Prepared ws b w nodes facts)
-    (f : Filled b atom_never w w₁ (b.atoms + b.nodes)) where
-  pub based_filled : Based ws (length w₁) b
+module _ {ed : Edition} {lim : ℕ} {ws : List ℕ} (fit : Holds ed lim) (acc : Accepted ed ws) (never atom_never : Set) {b : Bases} {w w₁ : List ℕ} {nodes facts : ℕ} (base : Based ws (length w) b)
+    (p : Prepared ws b w nodes facts) (f : Filled b atom_never w w₁ (b.atoms + b.nodes)) where
+  based_filled : Based ws (length w₁) b
   based_filled = rw f.outside.size base
 
-  pub prepared_filled : Prepared ws b w₁ nodes facts
+  prepared_filled : Prepared ws b w₁ nodes facts
   prepared_filled = let l = base.laid in prepared_kept l w w₁ (behind_more b.queue w w₁ f.outside.after b.body_nodes (omega arith)) p
 
   context : Context
   context = pass_context ws never atom_never (as_vertices b (cone_nodes b w₁ nodes)) (drop b.body_nodes w₁)
 
-  held : At b context w₁ 0 (flat_map (theory_of ws).heads (fact_rows b w₁ facts) ++ [])
+  held : AtFacts ed lim ws b context w₁ 0 (fact_rows b w₁ facts)
   unfolding context
-  held = rw append-nil (starts acc never atom_never based_filled prepared_filled (f.counts (cyclic (theory_of ws)) p.flagged))
+  held = record {
+    accepted = acc;
+    low = λ q m. ((prepared_filled.stated.are q).0 m).0;
+    at = (fits_word fit acc base, starts acc never atom_never based_filled prepared_filled (f.counts (cyclic (theory_of ws)) p.flagged));
+  }
 
-  pub facts_follow : Follows (At b) w₁ 0 (flat_map (theory_of ws).heads (fact_rows b w₁ facts))
-  facts_follow = record { ctx = context; more = []; held = held }
+  pub facts_follow : Follows (AtFacts ed lim ws b) w₁ 0 (fact_rows b w₁ facts)
+  facts_follow = follows_all (AtFacts ed lim ws b) held
 
   -- with every head of a fact met
-  module _ {w₂ : List ℕ} {t : ℕ} (d : Drives (At b) b.dependencies w₁ 0 (flat_map (theory_of ws).heads (fact_rows b w₁ facts)) w₂ t []) where
+  module _ {w₂ : List ℕ} {t : ℕ} (d : Drives (AtFacts ed lim ws b) b.dependencies w₁ 0 (fact_rows b w₁ facts) w₂ t []) where
+    stated : AtFacts ed lim ws b context w₂ t []
+    stated = drives_all (AtFacts ed lim ws b) held d
+
     stay : drop b.body_nodes w₂ ≡ drop b.body_nodes w₁
-    stay = behind facts_follow d
+    stay = facts_behind context w₁ w₂ 0 t (fact_rows b w₁ facts) [] held stated
 
-    pub based_stated : Based ws (length w₂) b
-    based_stated = rw d.size based_filled
-
-    pub prepared_stated : Prepared ws b w₂ nodes facts
-    prepared_stated = prepared_kept base.laid w₁ w₂ stay prepared_filled
-
-    pub nodes_follow : Follows (AtNodes ws never atom_never b) w₂ t (as_vertices b (cone_nodes b w₂ nodes))
-    unfolding context
-    nodes_follow = record {
-      ctx = drop b.body_nodes w₁;
-      more = [];
-      held = record { at = rw (append-nil, ap (as_vertices b) (cone_same base.laid w₁ w₂ stay nodes)) (d.keeps context [] held) };
+    started : AtCone ed ws never atom_never b (drop b.body_nodes w₁) w₂ t (cone_nodes b w₂ nodes)
+    unfolding context flat_map
+    started = let q = prepared_kept base.laid w₁ w₂ stay prepared_filled in record {
+      accepted = acc;
+      based = rw d.size based_filled;
+      flagged = q.flagged;
+      cone = λ n m. (q.cone.are n).0 m;
+      at = record { at = rw (ap (as_vertices b) (cone_same base.laid w₁ w₂ stay nodes)) stated.at.1 };
     }
 
+    pub nodes_follow : Follows (AtCone ed ws never atom_never b) w₂ t (cone_nodes b w₂ nodes)
+    nodes_follow = follows_all (AtCone ed ws never atom_never b) started
+
     -- with every node started
-    pub begun : {w₃ : List ℕ} {t₃ : ℕ} → Drives (AtNodes ws never atom_never b) b.dependencies w₂ t (as_vertices b (cone_nodes b w₂ nodes)) w₃ t₃ [] → Begun ws never atom_never b w w₃ t₃
-    unfolding nodes_follow
-    begun e = record {
+    pub begun : {w₃ : List ℕ} {t₃ : ℕ} → Drives (AtCone ed ws never atom_never b) b.dependencies w₂ t (cone_nodes b w₂ nodes) w₃ t₃ [] → Begun ws never atom_never b w w₃ t₃
+    begun e = let h = drives_all (AtCone ed ws never atom_never b) started e in record {
       outside = record {
         size = e.size ∙ d.size ∙ f.outside.size;
         before = e.frame ∙ d.frame ∙ f.outside.before;
-        after = let l = base.laid in behind_nodes nodes_follow e ∙ stay ∙ behind_more b.queue w w₁ f.outside.after b.body_nodes (omega arith);
+        after = let l = base.laid in h.at.at.kept ∙ behind_more b.queue w w₁ f.outside.after b.body_nodes (omega arith);
       };
       started =
           starting_end (vertices (theory_of ws)) (pass_mode (theory_of ws) (cyclic_cone (theory_of ws)) never atom_never) (preds (theory_of ws) everyone)
-          (e.keeps nodes_follow.ctx [] nodes_follow.held).at.starting;
+          h.at.at.starting;
     }

@@ -1,17 +1,19 @@
 -- A node's start state by what it waits for, and the start of the pass as the work area holds it.
 use Rattle.std.specs.Prelude.{◌≡◌, List, [], ℕ, ◌+◌, ◌≤◌, ◌<◌, length, drop}
-use Rattle.theory.specs.Sets.{Set, everyone}
+use Rattle.theory.specs.Sets.{Set, Is, everyone, Mem}
 use Rattle.theory.specs.Edges.{vertices, preds}
 use Rattle.theory.specs.Closure.{Mode, dead, free, single, every}
-use Rattle.theory.specs.Founded.{cyclic_cone}
+use Rattle.theory.specs.Founded.{cyclic, cyclic_cone}
 use Rattle.theory.specs.Words.{theory_of}
+use Rattle.theory.specs.Rows.{flat_map}
+use Rattle.theory.specs.Accepted.{Edition, Accepted}
 use Rattle.theory.specs.Pass.{node_mode, pass_mode}
 use Rattle.theory.specs.Starting.{first_count, Starting}
 use Rattle.area.specs.declared.Bases.{Bases}
-use Rattle.area.specs.Layout.{Laid}
+use Rattle.area.specs.Layout.{Laid, Based}
 use Rattle.initialization.specs.declared.Initial.{Initial}
 use Rattle.initialization.specs.declared.Initial.TheVariants.{Inactive, Awaiting, True}
-use Rattle.area.specs.Views.{count_at, queued}
+use Rattle.area.specs.Views.{count_at, queued, as_vertices}
 use Rattle.initialization.specs.Regions.{Flagged, Outside}
 
 -- the start state of a vertex to which n entries lead
@@ -50,6 +52,12 @@ pub record At (b : Bases) (c : Context) (w : List ℕ) (t : ℕ) (heads : List �
 abbrev pub Fitting : (lim : ℕ) (b : Bases) → Context → List ℕ → ℕ → List ℕ → Type 0
 Fitting lim b c w t heads = (b.atoms + b.nodes ≤ lim) × At b c w t heads
 
+-- the heads of these facts are still to be met
+pub record AtFacts (ed : Edition) (lim : ℕ) (ws : List ℕ) (b : Bases) (c : Context) (w : List ℕ) (t : ℕ) (facts : List ℕ) : Type 0 where
+  pub accepted : Accepted ed ws
+  pub low : (p : ℕ) → Mem p facts → p < (theory_of ws).producers
+  pub at : Fitting lim b c w t (flat_map (theory_of ws).heads facts)
+
 -- the context of a graph's pass
 abbrev pub pass_context : (ws : List ℕ) (never atom_never : Set) (nodes behind : List ℕ) → Context
 pass_context ws never atom_never nodes behind = record {
@@ -63,3 +71,15 @@ pass_context ws never atom_never nodes behind = record {
 -- t vertices are found, every head of a fact is met, and these nodes are still to be started
 pub record AtNodes (ws : List ℕ) (never atom_never : Set) (b : Bases) (behind w : List ℕ) (t : ℕ) (nodes : List ℕ) : Type 0 where
   pub at : At b (pass_context ws never atom_never nodes behind) w t []
+
+-- the same of nodes of the cone, with what is read to start one: the graph, and the flags
+pub record AtCone (ed : Edition) (ws : List ℕ) (never atom_never : Set) (b : Bases) (behind w : List ℕ) (t : ℕ) (nodes : List ℕ) : Type 0 where
+  pub accepted : Accepted ed ws
+  pub based : Based ws (length w) b
+  pub flagged : Flagged b w (cyclic (theory_of ws))
+  pub cone : (n : ℕ) → Mem n nodes → Is (cyclic_cone (theory_of ws) n)
+  pub at : AtNodes ws never atom_never b behind w t (as_vertices b nodes)
+
+-- whatever is done in a context, the words from a place on stay
+abbrev pub Stays : {Ctx : Type 0} → (Ctx → List ℕ → ℕ → List ℕ → Type 0) → ℕ → Type 0
+Stays {Ctx} P base = (c : Ctx) (w w' : List ℕ) (t t' : ℕ) (l l' : List ℕ) → P c w t l → P c w' t' l' → drop base w' ≡ drop base w

@@ -2,20 +2,19 @@
 // facts of `complete`).
 #![tactic(auto)]
 
-ghost use Rattle.std.specs.Prelude.{◌≡◌, false, [], ◌∷◌, ℕ, ◌+◌, ◌<◌, ◌≤◌, length, set};
+ghost use Rattle.std.specs.Prelude.{◌≡◌, [], List, ℕ, ◌+◌, ◌<◌, ◌≤◌, length, drop, set};
 ghost use Rattle.theory.specs.Sets.{Set, Is};
 ghost use Rattle.theory.specs.Theory.{Atom};
 ghost use Rattle.theory.specs.Founded.{cyclic, cyclic_cone};
 ghost use Rattle.theory.specs.Words.{bit_at, theory_of};
-ghost use Rattle.theory.specs.Rows.{flat_map};
+ghost use Rattle.theory.specs.Prefix.{upto};
 ghost use Rattle.theory.specs.Accepted.{Accepted};
 ghost use Rattle.theory.specs.Drive.{Follows, Drives};
 ghost use Rattle.theory.specs.Pass.{kind_mode};
 ghost use Rattle.theory.specs.Starting.{first_count};
 ghost use Rattle.area.specs.Layout.{Laid, Based};
-ghost use Rattle.area.specs.Views.{as_vertices};
-ghost use Rattle.initialization.specs.Regions.{cone_nodes, fact_rows, Flagged, ConeListed, FactsListed, Prepared, Begun};
-ghost use Rattle.initialization.specs.Start.{initial_of, initial_at, Filled, Context, At, Fitting, AtNodes};
+ghost use Rattle.initialization.specs.Regions.{Flagged, Prepared, Begun};
+ghost use Rattle.initialization.specs.Start.{initial_of, initial_at, Filled, Context, Fitting, AtFacts, AtCone, Stays};
 
 use area::Bases;
 use chains::Step;
@@ -29,6 +28,15 @@ pub enum Initial {
     True,
 }
 
+// Whether atom a is cyclic: a flag is a word of lent memory, 1 or 0. (`Flagged` stands in four contracts: `read` requires it, and the others say what they
+// answer for whatever set is flagged.)
+fn is_cyclic<W: Word>(work: &[W], b: Bases, a: usize) -> bool
+    requires { Laid b × (b.end ≤ length (W.numbers work.now)) × (a < b.atoms) }
+    ensures { (s : Set) → Flagged b (W.numbers work.now) s → result ≡ s a }
+{
+    words::at(work, b.cyclic_atoms + a) == words::SET
+}
+
 // What vertex v waits for before the facts and the nodes are looked at.
 fn first_count<W: Word>(atom_never: &[u64], work: &[W], b: Bases, v: usize) -> usize
     requires { Laid b × (b.end ≤ length (W.numbers work.now)) }
@@ -37,13 +45,7 @@ fn first_count<W: Word>(atom_never: &[u64], work: &[W], b: Bases, v: usize) -> u
     if b.atoms <= v {
         return 0;
     }
-    if words::at(work, b.cyclic_atoms + v) == 0 {
-        return 0;
-    }
-    if mask::bit(atom_never, v) {
-        return 0;
-    }
-    1
+    usize::from(is_cyclic(work, b, v) && !mask::bit(atom_never, v))
 }
 
 fn first_counts<W: Word>(atom_never: &[u64], work: &mut [W], b: Bases)
@@ -56,16 +58,17 @@ fn first_counts<W: Word>(atom_never: &[u64], work: &mut [W], b: Bases)
     }
 }
 
-// Vertex v is found.
+// Vertex v is found. (The queue, the facts and the nodes of the cone are lists in lent memory, with their lengths in the numbers `tail`, `facts`, `nodes` and `count`:
+// there is no heap to have a list of its own length on.)
 fn push<W: Word>(work: &mut [W], b: Bases, v: usize, tail: usize) -> usize
     requires { (b.queue + tail < length (W.numbers work.old)) × (v < W.limit) }
-    ensures { ((W.numbers work.new) ≡ set (W.numbers work.old) (b.queue + tail) v) × (result ≡ tail + 1) }
+    ensures { (W.numbers work.new ≡ set (W.numbers work.old) (b.queue + tail) v) × (result ≡ tail + 1) }
 {
     words::put(work, b.queue + tail, v);
     tail + 1
 }
 
-// A head of a fact: found if it waits.
+// A head of a fact: found if it waits, so if its count, a word of lent memory, is not 0.
 #[derive(Clone, Copy)]
 struct Activate {
     bases: Bases,
@@ -88,138 +91,119 @@ impl<W: Word> Step<W> for Activate {
     }
 }
 
-// The facts that have a cyclic head.
-fn activate_facts<W: Word>(graph: &[W], work: &mut [W], b: Bases, facts: usize) -> usize
-    requires accepted { Accepted W.edition (W.numbers graph.now) × Based (W.numbers graph.now) (length (W.numbers work.old)) b × (facts ≤ b.producers) × FactsListed (W.numbers graph.now) (fact_rows b (W.numbers work.old) facts) }
-    requires follows { Follows (At b) (W.numbers work.old) 0 (flat_map (theory_of (W.numbers graph.now)).heads (fact_rows b (W.numbers work.old) facts)) }
-    ensures { Drives (At b) b.dependencies (W.numbers work.old) 0 (flat_map (theory_of (W.numbers graph.now)).heads (fact_rows b (W.numbers work.old) facts)) (W.numbers work.new) result [] }
-{
-    let mut t: usize = 0;
-    for i in (0..facts).rev() {
-        t = chains::heads(
-            graph,
-            work,
-            Activate { bases: b },
-            words::at(work, b.fact_rows + i),
-            t,
-        );
-    }
-    t
+// A fact: its heads.
+#[derive(Clone, Copy)]
+struct Facts<'a, W> {
+    graph: &'a [W],
+    bases: Bases,
 }
 
-// An uncut Atom of an atom that is not cyclic: true unless its atom is cut.
-fn boundary(atom_never: &[u64], a: usize) -> Initial
-    ensures { (n : ℕ) → result ≡ initial_of (kind_mode Atom false (bit_at atom_never.now a)) n }
-{
-    if mask::bit(atom_never, a) {
-        return Initial::Inactive;
-    }
-    Initial::True
-}
+impl<W: Word> Step<W> for Facts<'_, W> {
+    ghost Context = { Context };
 
-// An uncut Atom: that of a cyclic atom waits for it.
-fn read_atom<W: Word>(atom_never: &[u64], work: &[W], b: Bases, a: usize) -> Initial
-    requires { Laid b × (b.end ≤ length (W.numbers work.now)) × (a < b.atoms) }
-    ensures { (s : Set) (n : ℕ) → Flagged b (W.numbers work.now) s → result ≡ initial_of (kind_mode Atom (s a) (bit_at atom_never.now a)) n }
-{
-    if words::at(work, b.cyclic_atoms + a) == 0 {
-        return boundary(atom_never, a);
-    }
-    Initial::Awaiting(1)
-}
+    ghost held = { λ it. AtFacts W.edition W.limit (W.numbers it.graph.now) it.bases };
 
-// The start state of a node of the cone, by the kind table.
-fn read<W: Word>(
-    graph: &[W],
-    never: &[u64],
-    atom_never: &[u64],
-    work: &[W],
-    b: Bases,
-    n: usize,
-) -> Initial
-    requires accepted { Accepted W.edition (W.numbers graph.now) × Based (W.numbers graph.now) (length (W.numbers work.now)) b × Flagged b (W.numbers work.now) (cyclic (theory_of (W.numbers graph.now))) }
-    requires is { Is (cyclic_cone (theory_of (W.numbers graph.now)) n) }
-    ensures { result ≡ initial_at (W.numbers graph.now) (bit_at never.now) (bit_at atom_never.now) n }
-{
-    if mask::bit(never, n) {
-        return Initial::Inactive;
+    ghost kept = { λ it. it.bases.dependencies };
+
+    fn step(self, work: &mut [W], p: usize, tail: usize) -> usize {
+        chains::heads(self.graph, work, Activate { bases: self.bases }, p, tail)
     }
-    let kind = graph::kind(graph, n);
-    if graph::starts_true(kind) {
-        return Initial::True;
-    }
-    if graph::takes_operand(kind) {
-        return read_atom(atom_never, work, b, graph::operand(graph, n));
-    }
-    if graph::waits_for_one(kind) {
-        return Initial::Awaiting(1);
-    }
-    if graph::waits_for_all(kind) {
-        return Initial::Awaiting(graph::entries(graph, graph::first_leaf(graph, n)));
-    }
-    Initial::Inactive
 }
 
 // A node of the cone: its count, or its place on the queue if it waits for nothing.
-fn start_node<W: Word>(
-    graph: &[W],
-    never: &[u64],
-    atom_never: &[u64],
-    work: &mut [W],
-    b: Bases,
-    n: usize,
-    tail: usize,
-) -> usize
-    requires accepted { Accepted W.edition (W.numbers graph.now) × Based (W.numbers graph.now) (length (W.numbers work.old)) b × Flagged b (W.numbers work.old) (cyclic (theory_of (W.numbers graph.now))) }
-    requires is { Is (cyclic_cone (theory_of (W.numbers graph.now)) n) }
-    requires follows { Follows (AtNodes (W.numbers graph.now) (bit_at never.now) (bit_at atom_never.now) b) (W.numbers work.old) tail ((b.atoms + n) ∷ []) }
-    ensures { Drives (AtNodes (W.numbers graph.now) (bit_at never.now) (bit_at atom_never.now) b) b.dependencies (W.numbers work.old) tail ((b.atoms + n) ∷ []) (W.numbers work.new) result [] }
-{
-    let initial = read(graph, never, atom_never, work, b, n);
-    match initial {
-        Initial::Inactive => tail,
-        Initial::Awaiting(count) => {
-            if count == 0 {
-                return push(work, b, b.atoms + n, tail);
-            }
-            words::put(work, b.dependencies + (b.atoms + n), count);
-            tail
+#[derive(Clone, Copy)]
+struct Nodes<'a, W> {
+    graph: &'a [W],
+    never: &'a [u64],
+    atom_never: &'a [u64],
+    bases: Bases,
+}
+
+impl<W: Word> Nodes<'_, W> {
+    // An uncut Atom: that of a cyclic atom waits for it, and any other is true unless its atom is cut.
+    fn read_atom(self, work: &[W], a: usize) -> Initial
+        requires { Laid self.bases × (self.bases.end ≤ length (W.numbers work.now)) × (a < self.bases.atoms) }
+        ensures { (s : Set) (n : ℕ) → Flagged self.entry.bases (W.numbers work.now) s → result ≡ initial_of (kind_mode Atom (s a) (bit_at self.entry.atom_never.now a)) n }
+    {
+        if is_cyclic(work, self.bases, a) {
+            Initial::Awaiting(1)
+        } else if mask::bit(self.atom_never, a) {
+            Initial::Inactive
+        } else {
+            Initial::True
         }
-        Initial::True => push(work, b, b.atoms + n, tail),
+    }
+
+    // The start state of a node of the cone, by the kind table.
+    fn read(self, work: &[W], n: usize) -> Initial
+        requires accepted { Accepted W.edition (W.numbers self.graph.now) × Based (W.numbers self.graph.now) (length (W.numbers work.now)) self.bases × Flagged self.bases (W.numbers work.now) (cyclic (theory_of (W.numbers self.graph.now))) }
+        requires is { Is (cyclic_cone (theory_of (W.numbers self.graph.now)) n) }
+        ensures { result ≡ initial_at (W.numbers self.entry.graph.now) (bit_at self.entry.never.now) (bit_at self.entry.atom_never.now) n }
+    {
+        if mask::bit(self.never, n) {
+            return Initial::Inactive;
+        }
+        let kind = graph::node_kind(self.graph, n);
+        if kind.starts_true() {
+            return Initial::True;
+        }
+        if kind.takes_operand() {
+            return self.read_atom(work, graph::operand(self.graph, n));
+        }
+        if kind.waits_for_one() {
+            return Initial::Awaiting(1);
+        }
+        if kind.waits_for_all() {
+            return Initial::Awaiting(graph::entries(self.graph, graph::first_leaf(self.graph, n)));
+        }
+        Initial::Inactive
     }
 }
 
-// The nodes of the cone.
-fn start_nodes<W: Word>(
-    graph: &[W],
-    never: &[u64],
-    atom_never: &[u64],
+impl<W: Word> Step<W> for Nodes<'_, W> {
+    ghost Context = { List ℕ };
+
+    ghost held = { λ it. AtCone W.edition (W.numbers it.graph.now) (bit_at it.never.now) (bit_at it.atom_never.now) it.bases };
+
+    ghost kept = { λ it. it.bases.dependencies };
+
+    fn step(self, work: &mut [W], n: usize, tail: usize) -> usize {
+        let b = self.bases;
+        let vertex = b.atoms + n;
+        match self.read(work, n) {
+            Initial::Inactive => tail,
+            Initial::Awaiting(count) => {
+                if count == 0 {
+                    return push(work, b, vertex, tail);
+                }
+                words::put(work, b.dependencies + vertex, count);
+                tail
+            }
+            Initial::True => push(work, b, vertex, tail),
+        }
+    }
+}
+
+// A list of the work area from its end, a step for each entry. No step changes the list.
+fn backwards<W: Word, S: Step<W>>(
     work: &mut [W],
-    b: Bases,
-    nodes: usize,
+    step: S,
+    base: usize,
+    count: usize,
     tail: usize,
 ) -> usize
-    requires accepted { Accepted W.edition (W.numbers graph.now) × Based (W.numbers graph.now) (length (W.numbers work.old)) b × Flagged b (W.numbers work.old) (cyclic (theory_of (W.numbers graph.now))) }
-    requires nodes_le_nodes { (nodes ≤ b.nodes) × ConeListed (W.numbers graph.now) (cone_nodes b (W.numbers work.old) nodes) }
-    requires follows { Follows (AtNodes (W.numbers graph.now) (bit_at never.now) (bit_at atom_never.now) b) (W.numbers work.old) tail (as_vertices b (cone_nodes b (W.numbers work.old) nodes)) }
-    ensures { Drives (AtNodes (W.numbers graph.now) (bit_at never.now) (bit_at atom_never.now) b) b.dependencies (W.numbers work.old) tail (as_vertices b (cone_nodes b (W.numbers work.old) nodes)) (W.numbers work.new) result [] }
+    requires stays { (base + count ≤ length (W.numbers work.old)) × Stays (S.held step) base }
+    requires follows { Follows (S.held step) (W.numbers work.old) tail (upto count (drop base (W.numbers work.old))) }
+    ensures { Drives (S.held step) (S.kept step) (W.numbers work.old) tail (upto count (drop base (W.numbers work.old))) (W.numbers work.new) result [] }
 {
     let mut t = tail;
-    for i in (0..nodes).rev() {
-        t = start_node(
-            graph,
-            never,
-            atom_never,
-            work,
-            b,
-            words::at(work, b.body_nodes + i),
-            t,
-        );
+    for i in (0..count).rev() {
+        t = step.step(work, words::at(work, base + i), t);
     }
     t
 }
 
-// The counts of all vertices, and the queue of those found at once: how many.
+// The counts of all vertices, and the queue of those found at once; the answer is its length.
 pub fn start<W: Word>(
     graph: &[W],
     never: &[u64],
@@ -233,6 +217,12 @@ pub fn start<W: Word>(
     ensures { Begun (W.numbers graph.now) (bit_at never.now) (bit_at atom_never.now) b (W.numbers work.old) (W.numbers work.new) result }
 {
     first_counts(atom_never, work, b);
-    let tail = activate_facts(graph, work, b, facts);
-    start_nodes(graph, never, atom_never, work, b, nodes, tail)
+    let tail = backwards(work, Facts { graph, bases: b }, b.fact_rows, facts, 0);
+    let each = Nodes {
+        graph,
+        never,
+        atom_never,
+        bases: b,
+    };
+    backwards(work, each, b.body_nodes, nodes, tail)
 }

@@ -1,14 +1,14 @@
 -- Masks of any length: the bits of the mask of a set, unused ones among them (`mask_bit`, `pack_bit`); each word of a mask is its own bits
--- (`mask_own`); and what one turn of a loop adds, by `set_bit` (`mask_set`, `mask_skip`) or word by word (`mask_more`).
+-- (`mask_own`); the store of `set_bit` (`bit_store`); and what one turn of a loop adds, word by word (`mask_more`).
 use mathlib.Core.Path.{◌≡◌, refl, sym, ap, ap₂, ◌∙◌}
-use mathlib.Core.Bool.{Bool, true, false, ◌&&◌, ◌||◌}
+use mathlib.Core.Bool.{Bool, false, ◌&&◌, ◌||◌}
 use mathlib.Core.List.{List, [], ◌∷◌, ◌++◌, append_assoc, append-nil}
 use Prim.Native.Nat.{ℕ, zero, suc, ◌+◌, ◌*◌, ◌/◌, ◌%◌, ◌^◌, ◌≤◌, ◌<◌}
 use native.Mathlib.Nat.{not-suc-le-zero, zero-div, div-add-mod}
 use native.Mathlib.Numerals.{add-one}
 use native.Mathlib.Decide.{ℕ_discrete, dec_lt}
 use native.Mathlib.Omega.{arith}
-use borrow.Author.Tests.{lt-ltb, le-ltb, eq-eqb, ne_eqb}
+use borrow.Author.Tests.{lt-ltb, le-ltb, ne_eqb}
 use lib.Bits.{bit_or, or_comm}
 use lib.Dec.{eqb, ltb}
 use lib.ListN.{length, get_or, set, drop, length-append, length-set, get_or-append, get_or-eq_default}
@@ -54,9 +54,6 @@ pack_bit n s i = mask_bit (words_of n) (below n s) i ∙ go (dec_lt i (64 * word
     go : Dec (i < 64 * words_of n) → below (64 * words_of n) (below n s) i ≡ below n s i
     go (yes l) = rw (lt-ltb i (64 * words_of n) l)
     go (no l) = rw (le-ltb i (64 * words_of n) (omega arith), le-ltb i n (omega arith))
-
-pub pack_unused : (n : ℕ) (s : Set) (i : ℕ) → n ≤ i → bit_at (pack n s) i ≡ false
-pack_unused n s i h = pack_bit n s i ∙ rw (le-ltb i n h)
 
 -- only the members below 64 * w count
 pub mask_ext : (w : ℕ) (s t : Set) → ((i : ℕ) → i < 64 * w → s i ≡ t i) → mask_of w s ≡ mask_of w t
@@ -128,32 +125,6 @@ module _ (m : List ℕ) (i : ℕ) (fit : (v : ℕ) → get_or m v 0 < 2 ^ 64) wh
           get_or-set_other m (i / 64) v stored 0 e
           ∙ sym (mask_own m v (fit v))
           ∙ bits_ext (bit_at m) (λ j. eqb j i || bit_at m j) (64 * v) 64 (λ j l u. rw (ne_eqb j i (λ q. omega arith)))
-
--- ---- a loop over the numbers: the mask has the members passed
-
-module _ (w a : ℕ) (s : Set) where
-  passed : (j : ℕ) → (j ≡ a → ⊥) → below a s j ≡ below (a + 1) s j
-  passed j e = ap (λ (b : Bool). b && s j) (go (dec_lt j a))
-    where
-      go : Dec (j < a) → ltb j a ≡ ltb j (a + 1)
-      go (yes l) = lt-ltb j a l ∙ sym (lt-ltb j (a + 1) (omega arith))
-      go (no l) = le-ltb j a (omega arith) ∙ sym (le-ltb j (a + 1) (omega arith))
-
-  pub mask_set : s a ≡ true → with_bit a (mask_of w (below a s)) ≡ mask_of w (below (a + 1) s)
-  mask_set h =
-      ap (λ (n : ℕ). mask_of n (λ j. eqb j a || bit_at (mask_of w (below a s)) j)) (mask_length w (below a s))
-      ∙ mask_ext w (λ j. eqb j a || bit_at (mask_of w (below a s)) j) (below (a + 1) s) (λ j l. rw (mask_bit w (below a s) j, lt-ltb j (64 * w) l) (go j (ℕ_discrete j a)))
-    where
-      go : (j : ℕ) → Dec (j ≡ a) → (eqb j a || below a s j) ≡ below (a + 1) s j
-      go j (yes e) = rw (e, eq-eqb a a refl, lt-ltb a (a + 1) (omega arith), h)
-      go j (no e) = rw (ne_eqb j a e) (passed j e)
-
-  pub mask_skip : s a ≡ false → mask_of w (below a s) ≡ mask_of w (below (a + 1) s)
-  mask_skip h = mask_ext w (below a s) (below (a + 1) s) (λ j _. go j (ℕ_discrete j a))
-    where
-      go : (j : ℕ) → Dec (j ≡ a) → below a s j ≡ below (a + 1) s j
-      go j (yes e) = rw (e, le-ltb a a (omega arith), lt-ltb a (a + 1) (omega arith), h)
-      go j (no e) = passed j e
 
 -- ---- a loop over the words: what is written so far, and the rest as it was
 

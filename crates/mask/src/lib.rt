@@ -5,7 +5,7 @@ ghost use Rattle.std.specs.Prelude.{◌≡◌, ◌+◌, ◌*◌, ◌<◌, ◌≤
 ghost use Rattle.theory.specs.Words.{bit_at};
 ghost use Rattle.mask.specs.Mask.{words_of, bits, pack, with_bit, flagged};
 
-use words::{Word, at};
+use words::{SET, Word, at};
 
 // The length of a mask over n numbers: ⌈n / 64⌉.
 pub fn words(n: usize) -> usize
@@ -30,11 +30,10 @@ pub fn set_bit(mask: &mut [u64], i: usize)
     requires { i < 64 * length mask.old }
     ensures { mask.new ≡ with_bit i mask.old }
 {
-    let w = i / 64;
-    mask[w] = mask[w] | (1u64 << (i % 64));
+    mask[i / 64] |= 1u64 << (i % 64);
 }
 
-// Word w of the mask of the flags, from the highest flag down.
+// Word w of the mask of the flags, from the highest flag down: each `<< 1` makes room for one flag (std has nothing that packs flags into a word).
 pub fn flag_word<W: Word>(flags: &[W], w: usize) -> u64
     requires { 64 * w ≤ length (W.numbers flags.now) }
     ensures { result ≡ bits (flagged (W.numbers flags.now)) (64 * w) 64 }
@@ -43,12 +42,12 @@ pub fn flag_word<W: Word>(flags: &[W], w: usize) -> u64
     let end = from + (flags.len() - from).min(64);
     let mut word: u64 = 0;
     for i in (from..end).rev() {
-        word = (word << 1) | (at(flags, i) == 1) as u64;
+        word = (word << 1) | u64::from(at(flags, i) == SET);
     }
     word
 }
 
-// Writes the set that the flags stand for, one flag a number.
+// Writes the set that the flags stand for, one flag a number. (By index: after a loop over `iter_mut` a proof knows the length alone.)
 pub fn pack_flags<W: Word>(flags: &[W], mask: &mut [u64])
     requires { length mask.old ≡ words_of (length (W.numbers flags.now)) }
     ensures { mask.new ≡ pack (length (W.numbers flags.now)) (flagged (W.numbers flags.now)) }

@@ -22,6 +22,7 @@ use Rattle.theory.proofs.FoundedLaws.{missing_parts}
 use Rattle.theory.proofs.PassLaws.{mode_atom, passed_founded, cyclic_cone_enough}
 use Rattle.theory.proofs.TurnedLaws.{same_members, apart, upto_distinct}
 use Rattle.theory.proofs.WorklistLaws.{worklist_start}
+use Rattle.words.specs.Words.{Holds}
 use Rattle.graph.proofs.DecodeLaws.{the_atoms, the_nodes, the_producers}
 use Rattle.area.specs.declared.Bases.{Bases}
 use Rattle.area.specs.Layout.{Based}
@@ -100,14 +101,17 @@ module _ {ws : List ℕ} {ed : Edition} (acc : Accepted ed ws) {b : Bases} {w : 
       unfolding vertices
       bound = let q = counts in omega arith
 
-      pub running₂ : {lim : ℕ} → b.atoms + b.nodes < lim → Running lim ws b (pass_mode (theory_of ws) (cyclic_cone (theory_of ws)) never atom_never) w₂ 0 t
+      small : {lim : ℕ} → Holds ed lim → b.atoms + b.nodes < lim
+      small holds = let q = counts in let a = acc.atoms_few in let n = acc.nodes_few in let e = holds.small in let f = holds.few_counts in omega arith
+
+      pub running₂ : {lim : ℕ} → Holds ed lim → Running lim ws b (pass_mode (theory_of ws) (cyclic_cone (theory_of ws)) never atom_never) w₂ 0 t
       unfolding upto
-      running₂ small = record {
+      running₂ holds = record {
         ahead = omega arith;
         held = record {
           laid = based.laid;
           long = let e = based₂.ends in e;
-          small = small;
+          small = small holds;
           fore = omega arith;
           front = λ i l. refl;
           settling = rw bound at (worklist_start (vertices (theory_of ws)) (pass_mode (theory_of ws) (cyclic_cone (theory_of ws)) never atom_never) (preds (theory_of ws) everyone) g.started);
@@ -168,5 +172,5 @@ module _ {ws : List ℕ} {ed : Edition} (acc : Accepted ed ws) {b : Bases} {w : 
                   waits (mode true e) (λ y. clash (queue_founded.0 y) f)
                   ∙ ap (λ (x : Bool). cond x 1 0) (sym ((missing_parts (theory_of ws) never atom_never a).1 (and_left (cyclic (theory_of ws) a) _ e, not_true (atom_never a) (and_right (cyclic (theory_of ws) a) _ e), f)))
 
-      pub passing₃ : {lim : ℕ} {w₃ : List ℕ} {u : ℕ} → b.atoms + b.nodes < lim → Ran lim ws b w₂ w₃ 0 t u u → Passing ws never atom_never b w w₃
-      passing₃ {w₃ = w₃} {u = u} small r = record { size = r.size ∙ size₂; flags = λ a l. missing_count u (r.runs (pass_mode (theory_of ws) (cyclic_cone (theory_of ws)) never atom_never) (running₂ small)) a l }
+      pub passing₃ : {lim : ℕ} {w₃ : List ℕ} {u : ℕ} → Holds ed lim → Ran lim ws b w₂ w₃ 0 t u u → Passing ws never atom_never b w w₃
+      passing₃ {w₃ = w₃} {u = u} holds r = record { size = r.size ∙ size₂; flags = λ a l. missing_count u (r.runs (pass_mode (theory_of ws) (cyclic_cone (theory_of ws)) never atom_never) (running₂ holds)) a l }

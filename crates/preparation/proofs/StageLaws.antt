@@ -1,16 +1,16 @@
 -- From stage to stage: the body cone says whether a node of it is absorbed (document 01, refusal 12), and what a stage leaves is what the next one needs.
-use mathlib.Core.Path.{◌≡◌, refl, ap, ◌∙◌, subst}
+use mathlib.Core.Path.{◌≡◌, refl, ap, ◌∙◌}
 use mathlib.Core.List.Memᴰ
 use mathlib.Core.List.{List, [], ◌∷◌}
 use Prim.Native.Nat.{ℕ, ◌<◌}
 use native.Mathlib.Omega.{arith}
 use lib.ListN.{length}
-use Rattle.theory.specs.Sets.{Set, Is, Mem}
-use Rattle.theory.specs.Theory.{Theory, Kind, absorbed}
+use Rattle.theory.specs.Sets.{Set, Mem}
+use Rattle.theory.specs.Theory.{Theory, absorbed}
 use Rattle.theory.specs.Words.{theory_of}
 use Rattle.theory.specs.Edges.{body_cone}
 use Rattle.theory.specs.Cases.{absorbed_in}
-use Rattle.theory.proofs.SetLaws.{clash, and_intro, and_left, and_right}
+use Rattle.theory.proofs.SetLaws.{and_intro, and_left, and_right}
 use Rattle.area.specs.declared.Bases.{Bases}
 use Rattle.area.specs.Layout.{Based}
 use Rattle.area.proofs.PartLaws.{frame_less}
@@ -19,6 +19,7 @@ use Rattle.rows.proofs.VertexLaws.{tables_same}
 use Rattle.cones.specs.Cones as cones
 use Rattle.cones.specs.declared.Absorbed.{Absorbed}
 use Rattle.cones.proofs.FactLaws.{members_mem}
+use Rattle.cones.proofs.RefuseLaws.{is_absorbed}
 use Rattle.std.specs.Prelude.{Result, Ok, Err}
 use Rattle.std.specs.Result.{IsErrAnd}
 use Rattle.preparation.specs.Flags.{Marked, Listed}
@@ -27,15 +28,6 @@ use Rattle.preparation.specs.Stages.{Rowed, Onward, Marking, Staged, Passing}
 empty : (l : List ℕ) → ((n : ℕ) → Mem n l → ⊥) → l ≡ []
 empty [] h = refl
 empty (x ∷ l) h = absurd (h x (Memᴰ.head refl))
-
-is_absorbed : (k : Kind) → Is (absorbed k) → k ≡ Kind.Absorbed
-unfolding absorbed
-is_absorbed Kind.False y = clash y refl
-is_absorbed Kind.Atom y = clash y refl
-is_absorbed Kind.And y = clash y refl
-is_absorbed Kind.Or y = clash y refl
-is_absorbed Kind.Opaque y = clash y refl
-is_absorbed Kind.Absorbed y = refl
 
 module _ (th : Theory) (b : Bases) (w : List ℕ) where
   pub cone_refused : (e : Absorbed) → cones.body_coned th b w (Err e) → Mem e.node (absorbed_in th)

@@ -11,6 +11,7 @@ ghost use Rattle.preparation.specs.Stages.{Rowed, Onward, Marking, Staged, Passi
 use adjacency::Table;
 use area::Bases;
 use cones::Absorbed;
+use finishing::NEW;
 use words::Word;
 
 // The four row tables.
@@ -31,7 +32,7 @@ fn walk<W: Word>(graph: &[W], work: &mut [W], b: Bases)
 {
     let from = b.states;
     let to = from + b.atoms;
-    words::fill(&mut work[from..to], W::of(1));
+    words::fill(&mut work[from..to], W::of(NEW));
     components::cyclic_atoms(graph, work, b);
 }
 
@@ -46,7 +47,7 @@ fn mark_in<W: Word>(graph: &[W], work: &mut [W], b: Bases) -> Result<(), Absorbe
     Ok(())
 }
 
-// The same, with the bases worked out here (`area::bases_of` says why).
+// The same, with the bases worked out here (`area::bases_of` says why, and cones::find why each does it by itself).
 fn mark<W: Word>(graph: &[W], work: &mut [W]) -> Result<(), Absorbed>
     requires { Accepted W.edition (W.numbers graph.now) × Based (W.numbers graph.now) (length (W.numbers work.old)) (bases_of (W.numbers graph.now) (length (W.numbers work.old))) }
     ensures { Staged (W.numbers graph.now) (bases_of (W.numbers graph.now) (length (W.numbers work.old))) (W.numbers work.old) (W.numbers work.new) result }

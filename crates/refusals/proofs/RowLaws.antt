@@ -10,8 +10,8 @@ use lib.Dec.{eqb, ltb, leb}
 use lib.ListN.{length, get_or}
 use Rattle.theory.specs.Sets.{Is, Mem, any}
 use Rattle.theory.specs.Theory.{joins}
-use Rattle.theory.specs.Words.{kind_of, node_at, producer_at, next_of, theory_of}
-use Rattle.theory.specs.Links.{link_after, ComesBack, comes_back}
+use Rattle.theory.specs.Words.{kind_of, next_of, theory_of}
+use Rattle.theory.specs.Links.{link_after, ComesBack}
 use Rattle.theory.specs.Accepted.{Edition, size_of, leaf_entries, head_entries}
 use Rattle.theory.proofs.SetLaws.{bool_cases, clash, any_holds}
 use Rattle.theory.proofs.ChainLaws.{comes_back_lem, clear_once, links_inside, upward_clear}

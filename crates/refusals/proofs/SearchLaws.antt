@@ -8,7 +8,7 @@ use native.Mathlib.Omega.{arith}
 use Rattle.theory.proofs.SetLaws.{bool_cases}
 use Rattle.refusals.specs.Answer.{refuse, accept, refuse_if, refuse_first}
 use Rattle.refusals.specs.Search.{Clear, First, Finds}
-use Rattle.std.specs.Prelude.{Option, Some, None}
+use Rattle.std.specs.Prelude.{Option, Some, None, MatchOption}
 
 module _ {bad : ℕ → Bool} where
   pub clear_none : (from : ℕ) → Clear bad from from
@@ -45,6 +45,14 @@ module _ {bad : ℕ → Bool} where
   pub finds_later : (start end : ℕ) {from : ℕ} → Clear bad from start → (r : Option ℕ) → Finds bad start end r → Finds bad from end r
   finds_later start end c None f = later c f
   finds_later start end c (Some i) f = (f.0, later c f.1)
+
+-- what `find` over a range says, where its closure answers as the test does within the range
+pub finds_first : (bad : ℕ → Bool) {from end : ℕ} → from ≤ end → (r : Option ℕ)
+    → MatchOption r ((i : ℕ) → from ≤ i → i < end → from ≤ i → i < end → bad i ≡ false)
+    (λ i. (from ≤ i) × (i < end) × (from ≤ i → i < end → bad i ≡ true) × ((k : ℕ) → from ≤ k → k < i → from ≤ k → k < end → bad k ≡ false))
+    → Finds bad from end r
+finds_first bad low None f = first_none (record { low = low; none = λ i p q. f i p q p q }) refl
+finds_first bad low (Some i) f = (f.1, first_found (record { low = f.0; none = λ k p q. f.3 k p q p (omega (arith, f.1)) }) f.1 (f.2 f.0 f.1))
 
 module _ (bad : ℕ → Bool) where
   -- the row refuses at the place that was found

@@ -1,5 +1,6 @@
 // Why the graph check refuses, and its rows 1 to 6, which look at one record at a time (document 01, "Where a call is turned away"; document 02, request 5). Rows 14 and 7 to 9 and the
-// check itself are in crate checking.
+// check itself are in crate checking. What the rows before have shown of the words (`Sized`, then `Linked` and `Chained`) is a clause of each row's test, here and there: a struct of the
+// words with it would be longer in each clause (crate graph says why), and there are three of them. `Finds` is what a search answers.
 #![tactic(auto)]
 
 pub mod search;
@@ -7,12 +8,12 @@ pub mod search;
 ghost use Rattle.std.specs.Prelude.{◌≡◌, ◌+◌, ◌≤◌, ◌<◌, length, get_or};
 ghost use Rattle.refusals.specs.Passed.{Sized, turns, turns_at};
 ghost use Rattle.refusals.specs.Search.{Clear, Finds};
-ghost use Rattle.refusals.specs.Refusals.{bad_edition, bad_counts, bad_size, bad_operand, bad_first, bad_record, bad_node, bad_body, bad_producer, bad_next, bad_link};
+ghost use Rattle.refusals.specs.Refusals.{bad_edition, bad_counts, bad_size, bad_operand, bad_first, bad_record, bad_node, bad_body, bad_producer, bad_link};
 
 use crate::search::first;
 use graph::{
-    atoms, body, first_head, first_leaf, kind, links, links_from, next, nodes, operand, producers,
-    takes_links, takes_operand,
+    NodeKind, atoms, body, first_head, first_leaf, kind, links, links_from, next, nodes, operand,
+    producers,
 };
 use words::{Word, at};
 
@@ -32,33 +33,27 @@ pub enum Refusal {
 }
 
 // Row 1.
+#[tactic(auto, unfolding(crate::specs::Refusals::bad_edition))]
 pub fn bad_edition<W: Word>(graph: &[W]) -> bool
     ensures { result ≡ bad_edition W.edition (W.numbers graph.now) }
 {
-    if graph.len() < 5 {
-        return true;
-    }
-    at(graph, 0) != W::NUMBER
+    graph.len() < 5 || at(graph, 0) != W::NUMBER
 }
 
 // Row 2.
+#[tactic(auto, unfolding(crate::specs::Refusals::bad_counts))]
 pub fn bad_counts<W: Word>(graph: &[W]) -> bool
     requires { 5 ≤ length (W.numbers graph.now) }
     ensures { result ≡ bad_counts W.edition (W.numbers graph.now) }
 {
-    if W::COUNTS < atoms(graph) {
-        return true;
-    }
-    if W::COUNTS < nodes(graph) {
-        return true;
-    }
-    if W::COUNTS < producers(graph) {
-        return true;
-    }
-    W::LINKS < links(graph)
+    W::COUNTS < atoms(graph)
+        || W::COUNTS < nodes(graph)
+        || W::COUNTS < producers(graph)
+        || W::LINKS < links(graph)
 }
 
 // Row 3.
+#[tactic(auto, unfolding(crate::specs::Refusals::bad_size))]
 pub fn bad_size<W: Word>(graph: &[W]) -> bool
     requires { 5 ≤ length (W.numbers graph.now) }
     ensures { result ≡ bad_size (W.numbers graph.now) }
@@ -67,39 +62,32 @@ pub fn bad_size<W: Word>(graph: &[W]) -> bool
 }
 
 // Row 4: the kind table drives the tests of operand and first link.
-fn bad_operand(kind: usize, operand: usize, atoms: usize) -> bool
-    requires { kind ≤ 7 }
-    ensures { result ≡ bad_operand kind operand atoms }
+#[tactic(auto, unfolding(crate::specs::Refusals::bad_operand))]
+fn bad_operand(kind: NodeKind, operand: usize, atoms: usize) -> bool
+    ensures { result ≡ bad_operand kind.number operand atoms }
 {
-    if takes_operand(kind) {
+    if kind.takes_operand() {
         return atoms <= operand;
     }
     operand != 0
 }
 
-fn bad_first(kind: usize, first: usize, links: usize) -> bool
-    requires { kind ≤ 7 }
-    ensures { result ≡ bad_first kind first links }
+#[tactic(auto, unfolding(crate::specs::Refusals::bad_first))]
+fn bad_first(kind: NodeKind, first: usize, links: usize) -> bool
+    ensures { result ≡ bad_first kind.number first links }
 {
-    if links < first {
-        return true;
-    }
-    if takes_links(kind) {
-        return false;
-    }
-    first != 0
+    links < first || !kind.takes_links() && first != 0
 }
 
+// The kind is still the record's word: this test makes a kind of it, or refuses.
+#[tactic(auto, unfolding(crate::specs::Refusals::bad_record))]
 fn bad_record(kind: usize, operand: usize, first: usize, atoms: usize, links: usize) -> bool
     ensures { result ≡ bad_record kind operand first atoms links }
 {
-    if 7 < kind {
+    let Ok(kind) = NodeKind::try_from(kind) else {
         return true;
-    }
-    if bad_operand(kind, operand, atoms) {
-        return true;
-    }
-    bad_first(kind, first, links)
+    };
+    bad_operand(kind, operand, atoms) || bad_first(kind, first, links)
 }
 
 fn bad_node_at<W: Word>(graph: &[W], n: usize) -> bool
@@ -115,7 +103,7 @@ fn bad_node_at<W: Word>(graph: &[W], n: usize) -> bool
     )
 }
 
-// The first node whose record is wrong.
+// The first node whose record is wrong. As `bad_producer` below, one call of `first`: range, test and clause are all there is, and all of it differs.
 pub fn bad_node<W: Word>(graph: &[W]) -> Option<usize>
     requires { Sized W.edition (W.numbers graph.now) }
     ensures { Finds (bad_node (W.numbers graph.now)) 0 (get_or (W.numbers graph.now) 2 0) result }
@@ -124,13 +112,11 @@ pub fn bad_node<W: Word>(graph: &[W]) -> Option<usize>
 }
 
 // Row 5.
+#[tactic(auto, unfolding(crate::specs::Refusals::bad_body))]
 fn bad_body(body: usize, first: usize, nodes: usize, links: usize) -> bool
     ensures { result ≡ bad_body body first nodes links }
 {
-    if nodes < body {
-        return true;
-    }
-    links < first
+    nodes < body || links < first
 }
 
 fn bad_producer_at<W: Word>(graph: &[W], p: usize) -> bool
@@ -154,16 +140,11 @@ pub fn bad_producer<W: Word>(graph: &[W]) -> Option<usize>
 }
 
 // Links that only lead upward: a next is 0 or a later link of the graph. Then row 6 passes and no chain comes back. The first link whose next is another.
+#[tactic(auto, unfolding(crate::specs::Passed::turns))]
 fn turns(next: usize, l: usize, links: usize) -> bool
     ensures { result ≡ turns next l links }
 {
-    if links < next {
-        return true;
-    }
-    if next == 0 {
-        return false;
-    }
-    next <= l
+    links < next || next != 0 && next <= l
 }
 
 fn turns_at<W: Word>(graph: &[W], l: usize) -> bool
@@ -180,20 +161,15 @@ pub fn first_turn<W: Word>(graph: &[W]) -> Option<usize>
     first(1, links(graph) + 1, |l| turns_at(graph, l))
 }
 
-// Row 6: the first link from `start` on whose next is wrong. Those before it lead upward.
-fn bad_next(next: usize, links: usize) -> bool
-    ensures { result ≡ bad_next next links }
-{
-    links < next
-}
-
+// Row 6.
 fn bad_link_at<W: Word>(graph: &[W], l: usize) -> bool
     requires { Sized W.edition (W.numbers graph.now) × (0 < l) × (l ≤ get_or (W.numbers graph.now) 4 0) }
     ensures { result ≡ bad_link (W.numbers graph.now) l }
 {
-    bad_next(next(graph, links_from(graph), l), links(graph))
+    links(graph) < next(graph, links_from(graph), l)
 }
 
+// The first link from `start` on whose next is wrong. Those before it lead upward.
 pub fn bad_link<W: Word>(graph: &[W], start: usize) -> Option<usize>
     requires { Sized W.edition (W.numbers graph.now) × (start ≤ get_or (W.numbers graph.now) 4 0) × Clear (turns_at (W.numbers graph.now)) 1 start }
     ensures { Finds (bad_link (W.numbers graph.now)) 1 (get_or (W.numbers graph.now) 4 0 + 1) result }

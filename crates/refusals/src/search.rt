@@ -8,10 +8,9 @@ pub fn first<F: Fn(usize) -> bool>(from: usize, end: usize, test: F) -> Option<u
     requires callable { (i : ℕ) → from ≤ i → i < end → F.pre test i }
     ensures { (bad : ℕ → Bool) → Tells (F.post test) from end bad → Finds bad from end result }
 {
-    for i in from..end {
-        if test(i) {
-            return Some(i);
-        }
-    }
-    None
+    (from..end).find(
+        |i|
+            requires { F.pre test i.now }
+        { test(*i) },
+    )
 }

@@ -21,16 +21,16 @@ use Rattle.refusals.specs.Answer.{Answer, accept, refuse, or_next, first_refusal
 use Rattle.refusals.specs.Refusals.{graph_rows, graph_answer, refused_as}
 use Rattle.refusals.specs.declared.Refusal.{Refusal}
 use Rattle.refusals.proofs.AcceptedLaws.{accepted}
-use Rattle.founded.specs.Answers.{absorbed_row, bad_lengths, turned_as, call_of, Completes}
+use Rattle.founded.specs.Answers.{absorbed_row, bad_lengths, call_of, Completes}
 use Rattle.founded.specs.declared.CallError.{CallError}
 use Rattle.founded.specs.declared.CallError.TheVariants.{Refused, Lengths}
-use Rattle.founded.proofs.OutcomeLaws.{graph_number, call_some}
+use Rattle.founded.proofs.OutcomeLaws.{graph_number}
 use Rattle.founded.proofs.OutputLaws.{missing_list}
 use Rattle.founded.proofs.CallLaws.{absorbed_last, last_row, work_fits}
 use Rattle.input.specs.Bytes.{words}
-use Rattle.text.specs.Text.{loops_line, missing_line, refused_line, Appended}
+use Rattle.text.specs.Text.{loops_line, missing_line, Appended}
 use Rattle.report.specs.Report.{lines, atom_mask, node_mask, bad_masks, answer, Printed, Split}
-use Rattle.report.specs.Answered.{Refuses, Says, Ready, Answered}
+use Rattle.report.specs.Answered.{Refuses, Ready, Answered}
 
 -- ---- the pass
 
@@ -68,11 +68,6 @@ append_within {text = text} {new = new} {r = r} a = omega (arith, a.end, sym (le
 pub print_both : {answers : ℕ → Answer} {graph never atom_never output both old new text : List ℕ} {r : ℕ} {yes : Bool} → Answered answers graph never atom_never output (Ok yes) → text ≡ both
     → Appended old 0 text new r → Printed answers both (theory_of graph) old new r
 print_both a h t = record { place = a.place; within = append_within t; exact = sym (length-take-le _ _ (append_within t)); text = t.text_there ∙ rw (a.says.ok, h); behind = t.behind; absorbed = a.absorbed }
-
-pub print_refused : {answers : ℕ → Answer} {graph never atom_never output both old new : List ℕ} {r n p : ℕ} {e : CallError} → Answered answers graph never atom_never output (Err e)
-    → n ≡ (turned_as e).number → p ≡ (turned_as e).place → Appended old 0 (refused_line n p) new r → Printed answers both (theory_of graph) old new r
-print_refused {e = e} a en ep t =
-    record { place = a.place; within = append_within t; exact = sym (length-take-le _ _ (append_within t)); text = t.text_there ∙ rw (en, ep, a.says.err.same, call_some e); behind = t.behind; absorbed = a.absorbed }
 
 pub lines_same : (graph never atom_never output : List ℕ) (cycle : Bool) (atoms : ℕ) → cycle ≡ has_cycle (theory_of graph) → atoms ≡ get_or graph 1 0
     → output ≡ pack (get_or graph 1 0) (missing (theory_of graph) (bit_at never) (bit_at atom_never))

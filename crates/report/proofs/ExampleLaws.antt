@@ -42,10 +42,12 @@ pub examples :
     × (report_text (in_bytes (alone 7) ++ no_cuts ++ no_cuts) 0 ≡ 114 ∷ 101 ∷ 102 ∷ 117 ∷ 115 ∷ 101 ∷ 100 ∷ 32 ∷ 49 ∷ 50 ∷ 32 ∷ 48 ∷ 10 ∷ [])
     -- nothing: refused 1 0
     × (report_text [] 0 ≡ 114 ∷ 101 ∷ 102 ∷ 117 ∷ 115 ∷ 101 ∷ 100 ∷ 32 ∷ 49 ∷ 32 ∷ 48 ∷ 10 ∷ [])
+    -- edition 2 and one byte too many: refused 1 0, since 1 comes before 10
+    × (report_text (in_bytes (2 ∷ 0 ∷ 0 ∷ 0 ∷ 0 ∷ []) ++ (0 ∷ [])) 0 ≡ 114 ∷ 101 ∷ 102 ∷ 117 ∷ 115 ∷ 101 ∷ 100 ∷ 32 ∷ 49 ∷ 32 ∷ 48 ∷ 10 ∷ [])
 unfolding report_text graph_size graph_of masks_of bad_masks answer in_bytes no_cuts little_endian tabulate digits_in decimal spaced absorbed_row
     takes_operand refuse_first first_refusal bad_edition bad_counts bad_entries bad_operand bad_first bad_record bad_body bad_next after link_after comes_back bad_size graph_rows graph_answer
     absorbed_in any all member filled any_below members sum_below has table_from grow least reach_step reached
     kind_of chain_in chain theory_of bit_at joins absorbed
     occurrences vertices body_entries bodies_below inputs preds_by preds is_body is_leaf cone_step cone body_cone
     holds truth_in truth fires has_cycle cyclic atom_truth produced founded_step founded missing
-examples = (refl, refl, refl, refl, refl)
+examples = (refl, refl, refl, refl, refl, refl)

@@ -13,6 +13,7 @@ ghost use Rattle.report.specs.Report.{bad_masks, node_mask, atom_mask, answer as
 ghost use Rattle.report.specs.Answered.{Ready, Answered};
 
 use founded::CallError;
+use numbers::Numbered;
 
 // The loop test on an accepted graph.
 fn loops(graph: &[u16], work: &mut [u16]) -> bool
@@ -22,7 +23,8 @@ fn loops(graph: &[u16], work: &mut [u16]) -> bool
     matches!(cycles::needed(graph, work), Ok(true))
 }
 
-// The loop test and the pass: whether there is a loop, and in `output` the missing atoms.
+// The loop test and the pass: whether there is a loop, and in `output` the missing atoms. (The parameters are those of `founded::complete`, to which alone
+// they go on.)
 fn pass(
     graph: &[u16],
     never: &[u64],
@@ -39,6 +41,7 @@ fn pass(
 }
 
 // Row 10, of the bytes of both masks.
+#[tactic(auto, using(crate::proofs::CallLaws::accepted_few), unfolding(crate::specs::Report::bad_masks))]
 fn bad_masks(graph: &[u16], masks: &[u8]) -> bool
     requires { graph_answer edition1 graph.now ≡ accept }
     ensures { result ≡ bad_masks graph.now masks.now }
@@ -47,6 +50,7 @@ fn bad_masks(graph: &[u16], masks: &[u8]) -> bool
 }
 
 // How many bytes the atom mask has.
+#[tactic(auto, using(crate::proofs::CallLaws::accepted_few, crate::proofs::CallLaws::masks_split))]
 fn atom_bytes(graph: &[u16], masks: &[u8]) -> usize
     requires { (graph_answer edition1 graph.now ≡ accept) × (bad_masks graph.now masks.now ≡ false) }
     ensures { Split graph.now masks.now result }
@@ -75,7 +79,8 @@ fn answer(graph: &[u16], masks: &[u8], output: &mut [u64; 16]) -> Result<bool, C
     )
 }
 
-// The graph's words and the bytes after them.
+// The text for the graph's words and the bytes after them, at the front of lent memory (no heap), and how many bytes it takes. All behind it stays.
+#[tactic(auto, using(crate::proofs::CallLaws::answered_few))]
 fn report_graph(graph: &[u16], masks: &[u8], out: &mut [u8]) -> usize
     requires { 6144 ≤ length out.old }
     ensures { ReportedOf graph.now masks.now out.old out.new result }
@@ -86,11 +91,14 @@ fn report_graph(graph: &[u16], masks: &[u8], out: &mut [u8]) -> usize
             let atoms = graph::atoms(graph);
             text::put_lines(out, cycle, &output[..mask::words(atoms)], atoms)
         }
-        Err(e) => text::put_refusal(out, numbers::call_number(e), numbers::call_place(e)),
+        Err(e) => {
+            let told = Numbered::from(e);
+            text::put_refusal(out, told.number, told.place)
+        }
     }
 }
 
-// The text for standard input's bytes, in lent memory (no heap): how many bytes of `out` it takes.
+// The text for standard input's bytes, at the front of lent memory (no heap), and how many bytes it takes: the caller writes those alone.
 pub fn report(input: &[u8], out: &mut [u8; 6144]) -> usize
     ensures { Reported input.now out.old out.new result }
 {

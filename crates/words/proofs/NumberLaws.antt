@@ -1,6 +1,6 @@
--- The numbers of words: as many as the words (`numbers_length`), which are few (`few_words`), and those of words of which one is set, all are one, or a part was
+-- The numbers of words: as many as the words (`numbers_length`), and those of words of which one is set, all are one, or a part was
 -- replaced.
-use Rattle.std.specs.Prelude.{◌≡◌, List, [], ◌∷◌, ◌++◌, ℕ, ◌*◌, ◌^◌, ◌<◌, ◌≤◌, length, map, set, replicate, take, drop, get_or, refl}
+use Rattle.std.specs.Prelude.{◌≡◌, List, [], ◌∷◌, ◌++◌, ℕ, ◌*◌, ◌^◌, ◌<◌, length, map, set, replicate, take, drop, get_or, refl}
 use Rattle.std.proofs.Common.{arith, ap, zero, suc, sym, ◌∙◌}
 use prog.Memory.{size}
 use denote.Param.{layout}
@@ -14,10 +14,6 @@ map_set : {A B : Type 0} (f : A → B) (xs : List A) (i : ℕ) (y : A) → map f
 map_set f [] i y = refl
 map_set f (x ∷ xs) zero y = refl
 map_set f (x ∷ xs) (suc i) y = ap (λ l. f x ∷ l) (map_set f xs i y)
-
-map_replicate : {A B : Type 0} (f : A → B) (n : ℕ) (x : A) → map f (replicate n x) ≡ replicate n (f x)
-map_replicate f zero x = refl
-map_replicate f (suc n) x = ap (λ l. f x ∷ l) (map_replicate f n x)
 
 map_take : {A B : Type 0} (f : A → B) (n : ℕ) (xs : List A) → map f (take n xs) ≡ take n (map f xs)
 map_take f zero xs = refl
@@ -33,25 +29,15 @@ map_append : {A B : Type 0} (f : A → B) (xs ys : List A) → map f (xs ++ ys) 
 map_append f [] ys = refl
 map_append f (x ∷ xs) ys = ap (λ l. f x ∷ l) (map_append f xs ys)
 
--- n words of two bytes or more
-pub few_words : (R : RattleType) (n : ℕ) → TakesTwoBytes R → n * size (layout R) < 2 ^ 63 → n < 2 ^ 62
-few_words R n wide room = omega (arith, mul-le-mul_left n wide)
-
 module _ {A : Type 0} {number : A → ℕ} {numbers : List A → List ℕ} (each : (ws : List A) → numbers ws ≡ map number ws) where
   pub numbers_length : (ws : List A) → length (numbers ws) ≡ length ws
   numbers_length ws = ap length (each ws) ∙ length-map ws number
-
-  pub numbers_kept : (ws' ws : List A) → length ws' ≡ length ws → length (numbers ws') ≡ length (numbers ws)
-  numbers_kept ws' ws same = numbers_length ws' ∙ same ∙ sym (numbers_length ws)
 
   pub numbers_at : (ws : List A) (i : ℕ) (d : A) → i < length ws → get_or (numbers ws) i 0 ≡ number (get_or ws i d)
   numbers_at ws i d h = rw (each ws) (Lists.get_or-map number ws i d 0 h)
 
   pub numbers_set : (ws : List A) (i : ℕ) (w : A) → numbers (set ws i w) ≡ set (numbers ws) i (number w)
   numbers_set ws i w = rw (each (set ws i w), each ws) (map_set number ws i w)
-
-  pub numbers_replicate : (n : ℕ) (w : A) → numbers (replicate n w) ≡ replicate n (number w)
-  numbers_replicate n w = rw (each (replicate n w)) (map_replicate number n w)
 
   pub numbers_take : (n : ℕ) (ws : List A) → numbers (take n ws) ≡ take n (numbers ws)
   numbers_take n ws = rw (each (take n ws), each ws) (map_take number n ws)

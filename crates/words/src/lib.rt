@@ -1,5 +1,6 @@
 // A word of a graph, of the work area or of flags: of 16 bits in edition 1, of 32 in edition 2. What an edition has of its own hangs on the type of its words; the
-// crates above are written once, over any `Word`, and see words as the numbers that they are.
+// crates above are written once, over any `Word`, and see words as the numbers that they are. `as` stands where Rust has no `From` (`u32` to `usize`), or a `TryFrom`
+// alone, whose error the `requires` of `of` rules out; the check refuses an `as` that may lose bits.
 #![tactic(auto)]
 
 ghost use Rattle.std.specs.Prelude.{◌≡◌, ◌<◌, List, ℕ, length, get_or, set, replicate, map, bit_or};
@@ -88,7 +89,7 @@ impl Word for u16 {
     const ENTRIES: usize = 4096;
 
     fn read(self) -> usize {
-        self as usize
+        usize::from(self)
     }
 
     fn of(x: usize) -> u16 {
@@ -146,6 +147,9 @@ impl Word for u32 {
     }
 }
 
+// A flag that is set, in a word of its own: that of a cyclic atom, and what crate mask packs. A word of lent memory, so no bool.
+pub const SET: usize = 1;
+
 // The word at i.
 pub fn at<W: Word>(words: &[W], i: usize) -> usize
     requires { i < length (W.numbers words.now) }
@@ -161,7 +165,7 @@ pub fn put<W: Word>(words: &mut [W], i: usize, x: usize)
     words[i] = W::of(x);
 }
 
-// Every word is x.
+// Every word is x. (std's `fill` asks that `clone` can't fail, and `Copy` alone does not say so; after a loop over `iter_mut` a proof knows the length alone.)
 pub fn fill<W: Word>(words: &mut [W], x: W)
     ensures { W.numbers words.new ≡ replicate (length (W.numbers words.old)) (W.number x) }
 {

@@ -8,34 +8,22 @@ use Rattle.adjacency.proofs.TableLaws.{stood}
 use borrow.Author.Rules.{rules}
 use Rattle.adjacency.proofs.build_in.Goals as goal
 
-pub offset_bounds-work-from : goal.offset_bounds-work-from
-offset_bounds-work-from g c =
-    let f = part_fits c.requires.1 c.args.table in
-    let e = c.base-from.ensures in
+pub offset_bounds-work-span : goal.offset_bounds-work-span
+offset_bounds-work-span g c =
+    let f = part_fits c.requires.1 c.args.table c.span.ensures in
     let long = numbers_length g.met.W.Word.each c.args.work.now in
-    let low : c.base-from.result ≤ length c.args.work.now = omega arith in
+    let low : c.span.result.start ≤ length c.args.work.now = omega arith in
     search rules
-
-pub slice_bounds-build-count : goal.slice_bounds-build-count
-slice_bounds-build-count g c = let f = part_fits c.requires.1 c.args.table in let e = c.base-from.ensures in let t = c.next-to.ensures in let long = numbers_length g.met.W.Word.each c.args.work.now in omega arith
-
-pub slice_bounds-build-start : goal.slice_bounds-build-start
-slice_bounds-build-start g c = let f = part_fits c.requires.1 c.args.table in let e = c.base-from.ensures in let t = c.next-to.ensures in let long = numbers_length g.met.W.Word.each c.args.work.now in omega arith
-
-pub slice_bounds-build-end : goal.slice_bounds-build-end
-slice_bounds-build-end g c = let f = part_fits c.requires.1 c.args.table in let e = c.base-from.ensures in let t = c.next-to.ensures in let long = numbers_length g.met.W.Word.each c.args.work.now in omega arith
 
 pub build-requires : goal.build-requires
 build-requires g c =
-    let f = part_fits c.requires.1 c.args.table in
-    let e = c.base-from.ensures in
-    let t = c.next-to.ensures in
-    (c.requires.0, rw (numbers_part g.met.W.Word.each c.base-from.result (c.next-to.result - c.base-from.result) c.args.work.now) (simp (length-take, length-drop) (omega arith)))
+    let f = part_fits c.requires.1 c.args.table c.span.ensures in
+    (c.requires.0, rw (numbers_part g.met.W.Word.each c.span.result.start (c.span.result.end - c.span.result.start) c.args.work.now) (simp (length-take, length-drop) (omega arith)))
 
 pub returns : goal.returns
 returns g c =
-    let n : _ = c.next-to.result - c.base-from.result in
+    let n : _ = c.span.result.end - c.span.result.start in
     let part : length (g.W.Word.numbers c.build.new.part) ≡ n = numbers_length g.met.W.Word.each c.build.new.part ∙ search rules in
-    let built = rw (numbers_part g.met.W.Word.each c.base-from.result n c.args.work.now) at c.build.ensures in
-    rw (numbers_splice g.met.W.Word.each c.base-from.result n c.args.work.now c.build.new.part)
-    (stood (g.W.Word.numbers c.args.work.now) (g.W.Word.numbers c.build.new.part) c.base-from.ensures c.next-to.ensures (part_fits c.requires.1 c.args.table) part built)
+    let built = rw (numbers_part g.met.W.Word.each c.span.result.start n c.args.work.now) at c.build.ensures in
+    rw (numbers_splice g.met.W.Word.each c.span.result.start n c.args.work.now c.build.new.part)
+    (stood (g.W.Word.numbers c.args.work.now) (g.W.Word.numbers c.build.new.part) c.span.ensures (part_fits c.requires.1 c.args.table c.span.ensures) part built)

@@ -1,14 +1,8 @@
-use Rattle.std.proofs.Common.{rules, ◌≡◌, ◌∙◌, sym, ap, get_or, arith}
+use Rattle.std.proofs.Common.{◌≡◌, ◌∙◌, sym, ap, get_or, arith}
 use borrow.Author.Tests.{eqb-true}
 use Rattle.words.proofs.NumberLaws.{numbers_at, numbers_length}
 use Rattle.area.proofs.WipeLaws.{blank_more, all_blank}
 use Rattle.area.proofs.blank.Goals as goal
-
-pub of-all-requires : goal.of-all-requires
-of-all-requires g c = let holds = g.met.W.Word.holds in omega arith
-
-pub loop-word-init : goal.loop-word-init
-loop-word-init g c = search rules
 
 pub loop-word-preserved : goal.loop-word-preserved
 loop-word-preserved g c =

@@ -1,17 +1,18 @@
-use mathlib.Core.Path.{refl, sym}
+use mathlib.Core.Path.{sym}
+use native.Mathlib.Omega.{arith}
+use Rattle.theory.specs.Words.{theory_of}
 use Rattle.theory.specs.Edges.{body_cone}
-use Rattle.theory.proofs.SetLaws.{clash}
-use Rattle.cones.specs.Cones.{picked}
+use Rattle.cones.proofs.RefuseLaws.{refuse_at, refuse_none}
 use Rattle.cones.proofs.body_cone.Goals as goal
 
-pub find-c-requires : goal.find-c-requires
-find-c-requires g c = record { accepted = rw (sym c.requires.1.is) (c.requires); flagged = λ e. clash e refl }
+pub first_refused-requires-clause-marks : goal.first_refused-requires-clause-marks
+unfolding body_cone
+first_refused-requires-clause-marks g c = (rw (sym c.requires.1.is) at c.find-c.ensures.0).found.marks
 
-pub refuse-requires : goal.refuse-requires
-unfolding body_cone picked
-refuse-requires g c =
-    let f = rw (sym c.requires.1.is) at c.find-c.ensures in
-    record { accepted = (c.requires.0, rw f.1.size c.requires.1); found = f.0.found }
+pub returns-in-Some : goal.returns-in-Some
+unfolding theory_of
+returns-in-Some g c = let f = rw (sym c.requires.1.is) at c.find-c.ensures in let h = c.in-Some.ensures in let e = c.requires.1.nodes in (f.1, refuse_at _ _ _ (omega arith) h.1)
 
-pub returns : goal.returns
-returns g c = (rw c.requires.1.is c.find-c.ensures.1, c.refuse.ensures)
+pub returns-in-None : goal.returns-in-None
+unfolding theory_of body_cone
+returns-in-None g c = let f = rw (sym c.requires.1.is) at c.find-c.ensures in let e = c.requires.1.nodes in (f.1, refuse_none _ _ _ f.0.found (λ k l. c.in-None.ensures k (omega arith)))

@@ -8,18 +8,6 @@ use Rattle.words.proofs.NumberLaws.{numbers_length}
 use Rattle.cycles.proofs.SetupLaws.{counts_part, set_up_started}
 use Rattle.cycles.proofs.set_up.Goals as goal
 
-pub build_in-requires : goal.build_in-requires
-build_in-requires g c = (c.requires.0, c.requires.1)
-
-pub build_in-requires-2 : goal.build_in-requires-2
-build_in-requires-2 g c = (c.requires.0, rw c.build_in.ensures.size c.requires.1)
-
-pub build_in-requires-3 : goal.build_in-requires-3
-build_in-requires-3 g c = (c.requires.0, rw (c.build_in-2.ensures.size, c.build_in.ensures.size) c.requires.1)
-
-pub overflow_add-to : goal.overflow_add-to
-overflow_add-to g c = let b = c.requires.1 in let l = b.laid in let e = b.ends in omega arith
-
 pub offset_bounds-work-from : goal.offset_bounds-work-from
 offset_bounds-work-from g c =
     let holds = g.met.W.Word.holds in
@@ -27,18 +15,6 @@ offset_bounds-work-from g c =
     let b = c.requires.1 in let l = b.laid in let e = b.ends in
     let low : c.args.b.dependencies ≤ length c.args.work.now = omega arith in
     search (rules, scaled_fits≤)
-
-pub slice_bounds-clear-count : goal.slice_bounds-clear-count
-slice_bounds-clear-count g c = let b = c.requires.1 in let l = b.laid in omega arith
-
-pub slice_bounds-clear-start : goal.slice_bounds-clear-start
-slice_bounds-clear-start g c = let b = c.requires.1 in let l = b.laid in omega arith
-
-pub slice_bounds-clear-end : goal.slice_bounds-clear-end
-slice_bounds-clear-end g c =
-    let holds = g.met.W.Word.holds in
-    let long = numbers_length g.met.W.Word.each c.args.work.now in
-    let b = c.requires.1 in let l = b.laid in let e = b.ends in let x = c.build_in.ensures.size in let y = c.build_in-2.ensures.size in let z = c.build_in-3.ensures.size in omega arith
 
 pub returns : goal.returns
 returns g c =

@@ -4,9 +4,3 @@ use Rattle.events.proofs.settle_all.Goals as goal
 
 pub bases_of-requires : goal.bases_of-requires
 bases_of-requires g c = rw (← numbers_length g.met.W.Word.each c.args.work.now) (c.requires.accepted.0, room c.requires.accepted.1)
-
-pub settle_in-requires : goal.settle_in-requires
-settle_in-requires g c = rw (c.bases_of.ensures.is, ← numbers_length g.met.W.Word.each c.args.work.now) (c.requires)
-
-pub returns : goal.returns
-returns g c = rw (c.bases_of.ensures.is, ← numbers_length g.met.W.Word.each c.args.work.now) at c.settle_in.ensures

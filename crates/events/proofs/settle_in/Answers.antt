@@ -5,9 +5,6 @@ use Rattle.events.proofs.RunLaws.{tail_low, head_low, run_follows, run_grows, ru
 use Rattle.rows.proofs.VertexLaws.{tables_same}
 use Rattle.events.proofs.settle_in.Goals as goal
 
-pub loop-head-init : goal.loop-head-init
-loop-head-init g c = (omega arith, omega arith, record { size = refl; tables = refl; runs = λ m r. r })
-
 pub overflow_add-b : goal.overflow_add-b
 overflow_add-b g c = let r = c.loop-head.invariant.2.runs c.requires.by_index.0 c.requires.by_index.1 in let t = tail_low c.requires.accepted.0 c.requires.accepted.1 c.loop-head.head c.loop-head.tail r in let l = c.requires.accepted.1.laid in let q = c.requires.accepted.1.ends in let z = c.loop-head-test.true in let y = c.loop-head.invariant.1 in omega arith
 

@@ -1,16 +1,17 @@
+use native.Mathlib.Omega.{arith}
 use Rattle.theory.specs.Words.{bit_at}
-use Rattle.initialization.proofs.StartLaws.{based_filled, prepared_filled, facts_follow, based_stated, prepared_stated, nodes_follow, begun}
+use Rattle.initialization.proofs.StartLaws.{facts_stay, facts_follow, nodes_stay, nodes_follow, begun}
 use Rattle.initialization.proofs.start.Goals as goal
 
-pub activate_facts-tail-requires : goal.activate_facts-tail-requires
-activate_facts-tail-requires g c =
-    let N = bit_at c.args.never.now in let M = bit_at c.args.atom_never.now in let q = prepared_filled c.requires.0 N M c.requires.1 c.requires.2 c.first_counts.ensures in
-    record { accepted = (c.requires.0, based_filled c.requires.0 N M c.requires.1 c.requires.2 c.first_counts.ensures, q.facts_few, q.stated); follows = facts_follow c.requires.0 N M c.requires.1 c.requires.2 c.first_counts.ensures }
+pub backwards-tail-requires : goal.backwards-tail-requires
+backwards-tail-requires g c =
+    let b = c.requires.1 in let l = b.laid in let e = b.ends in let k = c.requires.2.facts_few in let s = c.first_counts.ensures.outside.size in
+    record { stays = (omega arith, facts_stay l); follows = facts_follow g.met.W.Word.holds c.requires.0 (bit_at c.args.never.now) _ c.requires.1 c.requires.2 c.first_counts.ensures }
 
-pub start_nodes-requires : goal.start_nodes-requires
-start_nodes-requires g c =
-    let N = bit_at c.args.never.now in let M = bit_at c.args.atom_never.now in let q = prepared_stated c.requires.0 N M c.requires.1 c.requires.2 c.first_counts.ensures c.activate_facts-tail.ensures in
-    record { accepted = (c.requires.0, based_stated c.requires.0 N M c.requires.1 c.requires.2 c.first_counts.ensures c.activate_facts-tail.ensures, q.flagged); nodes_le_nodes = (q.nodes_few, q.cone); follows = nodes_follow c.requires.0 N M c.requires.1 c.requires.2 c.first_counts.ensures c.activate_facts-tail.ensures }
+pub backwards-requires : goal.backwards-requires
+backwards-requires g c =
+    let b = c.requires.1 in let l = b.laid in let e = b.ends in let k = c.requires.2.nodes_few in let s = c.first_counts.ensures.outside.size in let u = c.backwards-tail.ensures.size in
+    record { stays = (omega arith, nodes_stay); follows = nodes_follow g.met.W.Word.holds c.requires.0 _ _ c.requires.1 c.requires.2 c.first_counts.ensures c.backwards-tail.ensures }
 
 pub returns : goal.returns
-returns g c = begun c.requires.0 (bit_at c.args.never.now) (bit_at c.args.atom_never.now) c.requires.1 c.requires.2 c.first_counts.ensures c.activate_facts-tail.ensures c.start_nodes.ensures
+returns g c = begun g.met.W.Word.holds c.requires.0 _ _ c.requires.1 c.requires.2 c.first_counts.ensures c.backwards-tail.ensures c.backwards.ensures

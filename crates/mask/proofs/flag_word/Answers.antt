@@ -1,6 +1,6 @@
-use Rattle.std.proofs.Common.{◌≡◌, ◌∙◌, ◌+◌, ◌-◌, ◌*◌, sym, ap₂, arith}
+use Rattle.std.proofs.Common.{sym, arith}
 use Rattle.words.proofs.NumberLaws.{numbers_length}
-use Rattle.mask.specs.Mask.{bits, flagged}
+use Rattle.mask.specs.Mask.{flagged}
 use Rattle.mask.proofs.BitLaws.{bits_down}
 use Rattle.mask.proofs.MaskLaws.{flags_past}
 use Rattle.mask.proofs.flag_word.Goals as goal
@@ -13,11 +13,4 @@ loop-i-init g c =
 pub loop-i-preserved : goal.loop-i-preserved
 loop-i-preserved g c =
     let s = flagged (g.W.Word.numbers c.args.flags.now) in
-    (omega arith, rw c.at.ensures.0 (bits_down s 64 _ c.loop-i.i c.loop-i.word (omega arith) (omega arith) c.loop-i.invariant.1))
-
-pub returns : goal.returns
-returns g c =
-    let long = numbers_length g.met.W.Word.each c.args.flags.now in
-    let start : c.loop-i.i ≡ 64 * c.args.w = omega arith in
-    let count : 64 * c.args.w + 64 - c.loop-i.i ≡ 64 = omega arith in
-    c.loop-i.invariant.1 ∙ ap₂ (bits (flagged (g.W.Word.numbers c.args.flags.now))) start count
+    (omega arith, rw (c.from.ensures, c.at.ensures.0) (bits_down s 64 _ c.loop-i.i c.loop-i.word (omega arith) (omega arith) c.loop-i.invariant.1))

@@ -1,6 +1,6 @@
-use Rattle.std.proofs.Common.{rules, ◌∙◌, arith}
+use Rattle.std.proofs.Common.{rules, arith}
 use Rattle.mask.specs.Mask.{mask_of, flagged}
-use Rattle.mask.proofs.MaskLaws.{mask_more, mask_whole, flags_pack}
+use Rattle.mask.proofs.MaskLaws.{mask_more}
 use Rattle.mask.proofs.pack_flags.Goals as goal
 
 pub loop-w-init : goal.loop-w-init
@@ -9,8 +9,3 @@ loop-w-init g c = search rules
 
 pub loop-w-preserved : goal.loop-w-preserved
 loop-w-preserved g c = rw c.loop-w.invariant (mask_more c.loop-w.w (flagged (g.W.Word.numbers c.args.flags.now)) c.args.mask.now c.flag_word.result (omega arith) c.flag_word.ensures)
-
-pub returns : goal.returns
-returns g c =
-    let flags = (g.W.Word.numbers c.args.flags.now) in
-    c.loop-w.invariant ∙ mask_whole c.loop-w.w (flagged flags) c.args.mask.now (omega arith) ∙ rw c.requires (flags_pack flags)

@@ -1,4 +1,4 @@
-use Rattle.std.proofs.Common.{◌≡◌, ◌++◌, length, drop}
+use Rattle.std.proofs.Common.{◌≡◌, ◌++◌, drop}
 use Rattle.mask.specs.Mask.{mask_of, flagged}
 use Rattle.mask.proofs.pack_flags.Given as goal
 

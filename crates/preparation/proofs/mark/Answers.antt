@@ -4,9 +4,3 @@ use Rattle.preparation.proofs.mark.Goals as goal
 
 pub bases_of-requires : goal.bases_of-requires
 bases_of-requires g c = rw (← numbers_length g.met.W.Word.each c.args.work.now) (c.requires.0, room c.requires.1)
-
-pub mark_in-requires : goal.mark_in-requires
-mark_in-requires g c = rw (c.bases_of.ensures.is, ← numbers_length g.met.W.Word.each c.args.work.now) (c.requires)
-
-pub returns : goal.returns
-returns g c = rw (c.bases_of.ensures.is, ← numbers_length g.met.W.Word.each c.args.work.now) at c.mark_in.ensures

@@ -2,9 +2,6 @@ use mathlib.Core.Path.{◌∙◌}
 use Rattle.preparation.proofs.StageLaws.{cone_refused, cone_found, onward, staged_refused, staged_done}
 use Rattle.preparation.proofs.mark_in.Goals as goal
 
-pub body_cone-requires : goal.body_cone-requires
-body_cone-requires g c = (c.requires.0, rw c.build_rows.ensures.size c.requires.1)
-
 pub returns-in_err-body_cone : goal.returns-in_err-body_cone
 returns-in_err-body_cone g c =
     staged_refused _ _ _ _ c.in_err-body_cone.field-0.0 c.from_residual.result c.from_residual.ensures.1 (c.body_cone.ensures.0.size ∙ c.build_rows.ensures.size) (cone_refused _ _ _ c.in_err-body_cone.field-0.0 c.in_err-body_cone.ensures.1)

@@ -2,9 +2,6 @@ use mathlib.Core.Path.{sym}
 use Rattle.preparation.proofs.StageLaws.{ready_pass, listed_refused, listed_done}
 use Rattle.preparation.proofs.missing.Goals as goal
 
-pub mark-requires : goal.mark-requires
-mark-requires g c = rw (sym c.requires.1.is) (c.requires)
-
 pub returns-in_err-mark : goal.returns-in_err-mark
 returns-in_err-mark g c = listed_refused _ _ _ _ _ _ c.in_err-mark.field-0.0 c.from_residual.result c.from_residual.ensures.1 (rw (sym c.requires.1.is) at c.in_err-mark.ensures)
 

@@ -1,6 +1,4 @@
 use mathlib.Core.Path.{sym}
-use native.Mathlib.Omega.{arith}
-use Rattle.words.proofs.NumberLaws.{numbers_length}
 use Rattle.preparation.proofs.PassLaws.{cone_flags, start_prepared, based₂, tables₂, running₂, passing₃}
 use Rattle.preparation.proofs.pass.Goals as goal
 
@@ -12,13 +10,15 @@ start-first-requires g c = (c.requires.0, rw c.cyclic_cone-c.ensures.0.size c.re
 
 pub settle_all-requires : goal.settle_all-requires
 settle_all-requires g c =
-    let holds = g.met.W.Word.holds in
-    let long = numbers_length g.met.W.Word.each c.args.work.now in
-    let f = based₂ c.requires.0 c.requires.1 c.requires.2 c.cyclic_cone-c.ensures.0 c.cyclic_cone-c.ensures.1 c.start-first.ensures in rw (sym f.is) record { accepted = (c.requires.0, f, tables₂ c.requires.0 c.requires.1 c.requires.2 c.cyclic_cone-c.ensures.0 c.cyclic_cone-c.ensures.1 c.start-first.ensures); by_index = (_, running₂ c.requires.0 c.requires.1 c.requires.2 c.cyclic_cone-c.ensures.0 c.cyclic_cone-c.ensures.1 c.start-first.ensures (omega (arith, c.requires.0.atoms_few, c.requires.0.nodes_few, c.requires.1.atoms, c.requires.1.nodes))) }
+    let r = c.requires in let k = c.cyclic_cone-c.ensures in
+    let f = based₂ r.0 r.1 r.2 k.0 k.1 c.start-first.ensures in
+    rw (sym f.is) record {
+      accepted = (r.0, f, tables₂ r.0 r.1 r.2 k.0 k.1 c.start-first.ensures);
+      by_index = (_, running₂ r.0 r.1 r.2 k.0 k.1 c.start-first.ensures g.met.W.Word.holds);
+    }
 
 pub returns : goal.returns
 returns g c =
-    let holds = g.met.W.Word.holds in
-    let long = numbers_length g.met.W.Word.each c.args.work.now in
-    let f = based₂ c.requires.0 c.requires.1 c.requires.2 c.cyclic_cone-c.ensures.0 c.cyclic_cone-c.ensures.1 c.start-first.ensures in
-    passing₃ c.requires.0 c.requires.1 c.requires.2 c.cyclic_cone-c.ensures.0 c.cyclic_cone-c.ensures.1 c.start-first.ensures (omega (arith, c.requires.0.atoms_few, c.requires.0.nodes_few, c.requires.1.atoms, c.requires.1.nodes)) (rw (sym f.is) at c.settle_all.ensures)
+    let r = c.requires in let k = c.cyclic_cone-c.ensures in
+    let f = based₂ r.0 r.1 r.2 k.0 k.1 c.start-first.ensures in
+    passing₃ r.0 r.1 r.2 k.0 k.1 c.start-first.ensures g.met.W.Word.holds (rw (sym f.is) at c.settle_all.ensures)

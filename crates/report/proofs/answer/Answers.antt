@@ -4,6 +4,7 @@ use Prim.Native.Nat.{ℕ, ◌/◌, ◌<◌}
 use lib.ListN.{length, get_or}
 use lib.Seq.{take-append_seam, length-take-le}
 use Rattle.theory.specs.Accepted.{edition1}
+use Rattle.refusals.specs.Refusals.{graph_answer}
 use Rattle.refusals.proofs.RefusedLaws.{is_error}
 use Rattle.refusals.proofs.PlaceLaws.{graph_place}
 use Rattle.founded.specs.declared.CallError.TheVariants.{Refused}
@@ -14,32 +15,15 @@ use Rattle.report.proofs.answer.Goals as goal
 
 pub returns-in_err-check : goal.returns-in_err-check
 returns-in_err-check c =
-    let n : get_or c.args.graph.now 2 0 < 65536 = omega (arith, c.type_inv.graph 2) in
-    let p : get_or c.args.graph.now 3 0 < 65536 = omega (arith, c.type_inv.graph 3) in
-    let k : get_or c.args.graph.now 4 0 < 65536 = omega (arith, c.type_inv.graph 4) in
+    let words = c.type_inv.graph in
     let e = c.in_err-check.field-0.0 in
-    answered_graph c.args.masks.now e (is_error (Refused e) c.from_residual.result c.from_residual.ensures.1) c.in_err-check.ensures (graph_place (omega arith) edition1 c.args.graph.now n p k)
-
-pub bad_masks-requires : goal.bad_masks-requires
-bad_masks-requires c = sym c.in_ok-check.ensures
+    let low : (graph_answer edition1 c.args.graph.now).place < 65536 =
+    graph_place (omega arith) edition1 c.args.graph.now (omega (arith, words 2)) (omega (arith, words 3)) (omega (arith, words 4)) in
+    answered_graph c.args.masks.now e (is_error (Refused e) c.from_residual.result c.from_residual.ensures.1) c.in_err-check.ensures low
 
 pub returns-then-bad_masks : goal.returns-then-bad_masks
 returns-then-bad_masks c =
     answered_masks c.args.masks.now (sym c.in_ok-check.ensures) (sym c.bad_masks.ensures ∙ c.if-bad_masks.true)
-
-pub atom_bytes-requires : goal.atom_bytes-requires
-atom_bytes-requires c =
-    (sym c.in_ok-check.ensures, sym c.bad_masks.ensures ∙ c.if-bad_masks.false)
-
-pub pass-requires : goal.pass-requires
-pass-requires c =
-    let n = c.words-atoms.ensures.count ∙ ap (λ (k : ℕ). k / 8) c.split_at.ensures.front_len in
-    record {
-      accepted = sym c.in_ok-check.ensures;
-      node_words = omega (arith, c.words-nodes.ensures.exact, c.words-nodes.ensures.count, c.atom_bytes.ensures.nodes, c.split_at.ensures.back_len);
-      atom_words = sym c.words-atoms.ensures.exact ∙ atom_words c.atom_bytes.ensures n;
-      output_words = length-take-le _ _ (omega (arith, atom_room c.atom_bytes.ensures n)) ∙ atom_words c.atom_bytes.ensures n;
-    }
 
 pub returns : goal.returns
 returns c =

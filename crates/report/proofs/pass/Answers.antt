@@ -1,7 +1,6 @@
 use mathlib.Core.Path.{ap}
 use native.Mathlib.Omega.{arith}
 use Prim.Native.Nat.{◌<◌}
-use lib.ListN.{get_or}
 use Rattle.theory.specs.Accepted.{edition1}
 use Rattle.refusals.specs.Answer.{Answer}
 use Rattle.refusals.proofs.RefusedLaws.{is_error}
@@ -12,13 +11,13 @@ use Rattle.report.proofs.pass.Goals as goal
 
 pub returns-in_err-complete : goal.returns-in_err-complete
 returns-in_err-complete c =
-    let n : get_or c.args.graph.now 2 0 < 65536 = omega (arith, c.type_inv.graph 2) in
-    let p : get_or c.args.graph.now 3 0 < 65536 = omega (arith, c.type_inv.graph 3) in
-    let k : get_or c.args.graph.now 4 0 < 65536 = omega (arith, c.type_inv.graph 4) in
+    let words = c.type_inv.graph in
     let e = c.in_err-complete.field-0.0 in
     let done = c.in_err-complete.ensures in
     let row = pass_row c.requires c.loops-cycle.auto.work done in
-    answered_err (turned_as e).place (is_error e c.from_residual.result c.from_residual.ensures.1) record { same = row; place_low = completed_place (omega arith) edition1 c.args.graph.now n p k done } (rw row done.absorbed)
+    let low : (turned_as e).place < 65536 =
+    completed_place (omega arith) edition1 c.args.graph.now (omega (arith, words 2)) (omega (arith, words 3)) (omega (arith, words 4)) done in
+    answered_err (turned_as e).place (is_error e c.from_residual.result c.from_residual.ensures.1) record { same = row; place_low = low } (rw row done.absorbed)
 
 pub returns : goal.returns
 returns c =

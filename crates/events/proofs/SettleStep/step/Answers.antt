@@ -12,20 +12,11 @@ at-n-requires g c = let r = ready (c.requires) in let l = r.laid in omega arith
 pub overflow_add-b-then-n-ne1 : goal.overflow_add-b-then-n-ne1
 overflow_add-b-then-n-ne1 g c = let r = ready (c.requires) in let l = r.laid in omega arith
 
-pub overflow_sub-n : goal.overflow_sub-n
-overflow_sub-n g c = omega (arith, one_of c.at-n.result)
-
 pub put-requires : goal.put-requires
 put-requires g c = let r = ready (c.requires) in let l = r.laid in let k = c.at-n.ensures.1 in (omega arith, omega arith)
 
 pub returns-then-n-ne1 : goal.returns-then-n-ne1
-returns-then-n-ne1 g c = rw c.put.ensures (settle_wait (c.requires) c.at-n.result c.at-n.ensures.0 (let k = c.if-n-ne1.true in omega arith) _ (omega (arith, one_of c.at-n.result)))
-
-pub overflow_add-b-2 : goal.overflow_add-b-2
-overflow_add-b-2 g c = let r = ready (c.requires) in let l = r.laid in omega arith
-
-pub put-requires-2 : goal.put-requires-2
-put-requires-2 g c = let r = ready (c.requires) in let l = r.laid in (omega arith, omega arith)
+returns-then-n-ne1 g c = rw c.put.ensures (settle_wait (c.requires) c.at-n.result c.at-n.ensures.0 (let k = c.if-n-ne1.true in omega arith) _ (omega (arith, c.from-one.ensures, one_of c.at-n.result)))
 
 pub overflow_add-b-3 : goal.overflow_add-b-3
 overflow_add-b-3 g c = let r = ready (c.requires) in let l = r.laid in let k = settle_room (c.requires) (let e = c.at-n.ensures.0 in let z = c.if-n-ne1.false in omega arith) in omega arith

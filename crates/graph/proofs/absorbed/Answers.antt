@@ -1,6 +1,0 @@
-use mathlib.Core.Path.{sym}
-use Rattle.graph.proofs.KindLaws.{absorbed_is}
-use Rattle.graph.proofs.absorbed.Goals as goal
-
-pub returns : goal.returns
-returns c = sym (absorbed_is c.args.kind c.requires)
