@@ -13,8 +13,8 @@ const SOIL: u16 = 21845;
 
 const WIDE_SOIL: u64 = 6148914691236517205;
 
-// A refusal's number stays a number, and 0 that of success: the recorded list has it so, and so has the code of a call, beside which it is put. An enum would be made of
-// the one number only to be turned into the other.
+// In Answer, Outcome and work_agrees a refusal's number stays a number, and 0 that of success: the recorded list has it so, and so has the code of a call, beside which it is put.
+// An enum would be made of the one number only to be turned into the other.
 
 /// What the graph check or the loop test should answer: the number of a refusal and its place, or twice 0.
 #[derive(Clone, Copy, Debug, PartialEq, Eq)]
@@ -70,7 +70,7 @@ impl Outcome<'_> {
         output.iter().all(|word| *word == WIDE_SOIL)
     }
 
-    // What the call answered and left. (The place is the code's low half; std has no From for it.)
+    // What the call answered and left. (The code is number · 65,536 + place. std has nothing that splits a u32 in its halves; by way of its four bytes they would be two lines more.)
     fn agrees(&self, code: u32, output: &[u64], work: &[u16]) -> bool
         ensures { (result ≡ true) ↔ Agrees self.now.number self.now.places.now self.now.words.now code output.now work.now }
     {

@@ -1,5 +1,5 @@
--- What the reader promises: words of two bytes, low first; and once the recording is malformed, nothing changes any more.
-use Rattle.std.specs.Prelude.{◌≡◌, List, ℕ, ◌+◌, ◌*◌, get_or, Result, Err, IfErr}
+-- What the reader promises: words of two bytes, low first, which are counted; and once the recording is malformed, nothing changes any more.
+use Rattle.std.specs.Prelude.{◌≡◌, List, ℕ, ◌+◌, ◌*◌, min, get_or, Result, Err, IfErr, OnOk}
 use Rattle.recording.specs.declared.Malformed.{Malformed}
 use Rattle.recording.specs.declared.Reader.{Reader}
 
@@ -14,3 +14,7 @@ module _ {R T : Type 0} where
   -- the reader keeps the error that it answers
   abbrev pub Tells : Reader R → Result T Malformed → Type 0
   Tells s result = IfErr result (λ e. s.state ≡ Err e)
+
+  -- unless the answer is an error, n words more are read (the count stays at the largest number)
+  abbrev pub Counts : ℕ → (r s : Reader R) → Result T Malformed → Type 0
+  Counts n r s result = OnOk result (s.words ≡ min (r.words + n) 18446744073709551615)

@@ -1,7 +1,7 @@
 // The words of a recording, 16 bits each, low byte first, read from a source, as standard input is, through a block.
 #![tactic(auto)]
 
-ghost use Rattle.std.specs.Prelude.{◌≡◌, ◌+◌, ◌*◌, ◌≤◌, ◌++◌, Some, Ok, Err, IfOk, OnOk, length, codes, decimal, ⊤};
+ghost use Rattle.std.specs.Prelude.{◌≡◌, ℕ, ◌+◌, ◌*◌, ◌/◌, ◌≤◌, ◌++◌, Some, Ok, Err, IfOk, OnOk, length, codes, decimal, ⊤};
 
 use arrayvec::ArrayVec;
 use std::error::Error;
@@ -25,7 +25,7 @@ impl fmt::Display for Malformed {
 
 impl Error for Malformed {}
 
-/// Reads a recording. Once it is found malformed, `state` says where, and nothing more is read.
+/// Reads a recording. Once it is found malformed, `state` says where, and nothing more is read, also where a caller goes on. (The block is the reader's own: std's BufReader takes its block from the heap, and there is none.)
 #[derive(Drop)]
 pub struct Reader<R> {
     source: R,
@@ -39,7 +39,8 @@ pub struct Reader<R> {
     ghost within: { at + left ≤ 65536 },
 }
 
-// Reads until `bytes` is full, the source ends or a read fails, and returns how many bytes it put at the start. (`read_exact` does not say how many.)
+// Reads until `bytes` is full, the source ends or a read fails, and returns how many bytes it put at the start. (`read_exact` does not say how many. How often
+// the source must be asked is not known before, so this is no loop over a range or an iterator.)
 fn read_full<R: Read>(source: &mut R, bytes: &mut [u8]) -> usize
     ensures { result ≤ length bytes.new }
 {
@@ -61,9 +62,11 @@ fn wide(a: u16, b: u16, c: u16, d: u16) -> u64
     u64::from(a) + (u64::from(b) << 16) + (u64::from(c) << 32) + (u64::from(d) << 48)
 }
 
+// Keeps, Tells and Counts are facts of a change, from the reader before a call to the one after it, and of the answer. A ghost field and a method speak of one
+// reader, so each function that reads names them, here and in the crates above.
 impl<R: Read> Reader<R> {
     ghost use Rattle.arrayvec.specs.ArrayVec.{array_vec_len};
-    ghost use Rattle.recording.specs.Reading.{word_at, Keeps, Tells};
+    ghost use Rattle.recording.specs.Reading.{word_at, Keeps, Tells, Counts};
 
     pub fn new(source: R) -> Self
         ensures words { result.words ≡ 0 }
@@ -99,7 +102,9 @@ impl<R: Read> Reader<R> {
     }
 
     // A new block, where the last one is used up.
-    fn fill(&mut self) {
+    fn refill(&mut self)
+        ensures { self.new.words ≡ self.old.words }
+    {
         if self.left == 0 {
             self.at = 0;
             self.left = read_full(&mut self.source, &mut self.block);
@@ -110,6 +115,7 @@ impl<R: Read> Reader<R> {
     fn take(&mut self) -> Result<u16, Malformed>
         ensures word { IfOk result (λ word. word ≡ word_at self.old.block self.old.at) }
         ensures told { Tells self.new result }
+        ensures count { Counts 1 self.old self.new result }
     {
         if self.left < 2 {
             return Err(self.fail(self.words));
@@ -124,9 +130,10 @@ impl<R: Read> Reader<R> {
     pub fn next(&mut self) -> Result<u16, Malformed>
         ensures kept { Keeps self.old self.new result }
         ensures told { Tells self.new result }
+        ensures count { Counts 1 self.old self.new result }
     {
         self.state?;
-        self.fill();
+        self.refill();
         self.take()
     }
 
@@ -134,6 +141,7 @@ impl<R: Read> Reader<R> {
     pub fn expect(&mut self, word: u16) -> Result<u16, Malformed>
         ensures kept { Keeps self.old self.new result }
         ensures told { Tells self.new result }
+        ensures count { Counts 1 self.old self.new result }
         ensures word { IfOk result (λ got. got ≡ word) }
     {
         let got = self.next()?;
@@ -148,10 +156,11 @@ impl<R: Read> Reader<R> {
     pub fn expect_end(&mut self) -> Result<(), Malformed>
         ensures kept { Keeps self.old self.new result }
         ensures told { Tells self.new result }
+        ensures count { OnOk result (self.new.words ≡ self.old.words) }
         ensures end { OnOk result (self.new.left ≡ 0) }
     {
         self.state?;
-        self.fill();
+        self.refill();
         if 0 < self.left {
             return Err(self.fail(self.words));
         }
@@ -162,10 +171,40 @@ impl<R: Read> Reader<R> {
     pub fn skip(&mut self, n: usize) -> Result<(), Malformed>
         ensures kept { Keeps self.old self.new result }
         ensures told { Tells self.new result }
+        ensures count { Counts n self.old self.new result }
     {
         self.state?;
         for _ in 0..n {
             self.next()?;
+        }
+        Ok(())
+    }
+
+    /// Fills `items`.
+    pub fn fill<T: Recorded>(&mut self, items: &mut [T]) -> Result<(), Malformed>
+        ensures kept { Keeps self.old self.new result }
+        ensures told { Tells self.new result }
+        ensures count { Counts (length items.old * T.words) self.old self.new result }
+    {
+        self.state?;
+        for item in items {
+            *item = T::next(self)?;
+        }
+        Ok(())
+    }
+
+    /// Fills `bytes`, two to a word; what stands beside an odd last one is passed over.
+    pub fn fill_bytes(&mut self, bytes: &mut [u8]) -> Result<(), Malformed>
+        ensures kept { Keeps self.old self.new result }
+        ensures told { Tells self.new result }
+        ensures count { Counts ((length bytes.old + 1) / 2) self.old self.new result }
+    {
+        self.state?;
+        for k in 0..bytes.len().div_ceil(2) {
+            let word = self.next()?.to_le_bytes();
+            for (byte, of_word) in bytes[2 * k..].iter_mut().zip(word) {
+                *byte = of_word;
+            }
         }
         Ok(())
     }
@@ -178,63 +217,67 @@ impl<R: Read> Reader<R> {
         requires { n ≤ MOST }
         ensures kept { Keeps self.old self.new result }
         ensures told { Tells self.new result }
+        ensures count { Counts (n * T.words) self.old self.new result }
         ensures len { IfOk result (λ list. array_vec_len list ≡ n) }
     {
-        self.state?;
-        let mut list = ArrayVec::new();
-        for _ in 0..n {
-            list.push(T::next(self)?);
-        }
+        let mut list = ArrayVec::from_array_in((), [T::default(); MOST]);
+        list.truncate(n);
+        self.fill(list.as_mut_slice())?;
         Ok(list)
     }
 
-    /// The next n bytes, two to a word; what stands beside an odd last one is passed over.
+    /// The next n bytes, as `fill_bytes` has them.
     pub fn bytes<const MOST: usize>(&mut self, n: usize) -> Result<ArrayVec<u8, MOST>, Malformed>
         requires { n ≤ MOST }
         ensures kept { Keeps self.old self.new result }
         ensures told { Tells self.new result }
+        ensures count { Counts ((n + 1) / 2) self.old self.new result }
         ensures len { IfOk result (λ bytes. array_vec_len bytes ≡ n) }
     {
-        self.state?;
-        let mut bytes = ArrayVec::new();
-        while bytes.len() < n {
-            let [low, high] = self.next()?.to_le_bytes();
-            bytes.push(low);
-            if bytes.len() < n {
-                bytes.push(high);
-            }
-        }
+        let mut bytes = ArrayVec::from_array_in((), [0; MOST]);
+        bytes.truncate(n);
+        self.fill_bytes(bytes.as_mut_slice())?;
         Ok(bytes)
     }
 }
 
 /// What a list of the recording is of.
-pub trait Recorded: Default + Drop {
-    ghost use Rattle.recording.specs.Reading.{Keeps, Tells};
+pub trait Recorded: Default + Copy {
+    ghost use Rattle.recording.specs.Reading.{Keeps, Tells, Counts};
+
+    // how many words stand for it
+    ghost words: { ℕ };
 
     fn next<R: Read>(reader: &mut Reader<R>) -> Result<Self, Malformed>
         ensures kept { Keeps reader.old reader.new result }
-        ensures told { Tells reader.new result };
+        ensures told { Tells reader.new result }
+        ensures count { Counts words reader.old reader.new result };
 }
 
 impl Recorded for u16 {
-    ghost use Rattle.recording.specs.Reading.{Keeps, Tells};
+    ghost use Rattle.recording.specs.Reading.{Keeps, Tells, Counts};
+
+    ghost words = { 1 };
 
     fn next<R: Read>(reader: &mut Reader<R>) -> Result<u16, Malformed>
         ensures kept { Keeps reader.old reader.new result }
         ensures told { Tells reader.new result }
+        ensures count { Counts 1 reader.old reader.new result }
     {
         reader.next()
     }
 }
 
 impl Recorded for u64 {
-    ghost use Rattle.recording.specs.Reading.{Keeps, Tells};
+    ghost use Rattle.recording.specs.Reading.{Keeps, Tells, Counts};
+
+    ghost words = { 4 };
 
     // Four words, low first.
     fn next<R: Read>(reader: &mut Reader<R>) -> Result<u64, Malformed>
         ensures kept { Keeps reader.old reader.new result }
         ensures told { Tells reader.new result }
+        ensures count { Counts 4 reader.old reader.new result }
     {
         let a = reader.next()?;
         let b = reader.next()?;

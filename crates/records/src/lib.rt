@@ -1,7 +1,7 @@
 // What is recorded of a call or of a run of the program (crates/replay/README.md has the format), read into values.
 #![tactic(auto)]
 
-ghost use Rattle.std.specs.Prelude.{◌≡◌, ◌==◌, ◌≤◌, ◌++◌, if◌then◌else◌, Some, IfOk, codes, decimal};
+ghost use Rattle.std.specs.Prelude.{◌≡◌, ◌==◌, ◌≤◌, ◌++◌, if◌then◌else◌, Some, IfOk, codes, decimal, length};
 ghost use Rattle.arrayvec.specs.ArrayVec.{array_vec_len};
 ghost use Rattle.recording.specs.Reading.{Keeps, Tells};
 
@@ -84,9 +84,6 @@ pub type Places = ArrayVec<u16, 1024>;
 /// A mask or an output.
 pub type Wide = ArrayVec<u64, 32>;
 
-/// What the program read; the longest input has 70,054 bytes.
-pub type Input = ArrayVec<u8, 72000>;
-
 /// What the program printed.
 pub type Text = ArrayVec<u8, 6144>;
 
@@ -112,7 +109,10 @@ fn read_mask<R: Read>(reader: &mut Reader<R>) -> Result<Wide, Malformed>
     reader.list(n)
 }
 
-/// The number and the place of a refusal, or twice 0. (They stay numbers, as the format has them: `agreement` puts them beside the answer's number.)
+// Numbers of refusals stay numbers in Check, Needed and Prepare and in most_places, read_places and read_output, with 0 for success: the format has them so, and `agreement` puts them
+// beside the number in the code of a call. An enum would be made of the one number only to be turned into the other.
+
+/// The number and the place of a refusal, or twice 0. (`agreement::Answer` is the like of it, in a crate that this one does not stand on.)
 #[derive(Drop)]
 pub struct Check {
     pub number: u16,
@@ -236,25 +236,28 @@ impl Complete {
     }
 }
 
-/// A run of the program.
+/// A run of the program: how many bytes it read, which stand first in the memory that was lent for them, and what it printed. (The input is a number and no
+/// part of that memory: a part that is borrowed from a `&mut` keeps contracts from saying what the memory holds then.)
 #[derive(Drop)]
 pub struct Run {
-    pub input: Input,
+    pub input: usize,
     pub text: Text,
 }
 
-// The program's input, behind its length.
-fn read_input<R: Read>(reader: &mut Reader<R>) -> Result<Input, Malformed>
+// The program's input goes into lent room, behind its length: two words, low first.
+fn read_input<R: Read>(reader: &mut Reader<R>, room: &mut [u8]) -> Result<usize, Malformed>
     ensures kept { Keeps reader.old reader.new result }
     ensures told { Tells reader.new result }
+    ensures input { IfOk result (λ n. n ≤ length room.new) }
 {
     let low = usize::from(reader.next()?);
     let high = usize::from(reader.next()?);
-    let n = low + 65536 * high;
-    if 72000 < n {
+    let n = low + (high << 16);
+    if room.len() < n {
         return Err(reader.wrong());
     }
-    reader.bytes(n)
+    reader.fill_bytes(&mut room[..n])?;
+    Ok(n)
 }
 
 // The text, behind number and places. Of a 12 it is the text for the lowest place, which is the one that `report` gives.
@@ -270,12 +273,13 @@ fn read_text<R: Read>(reader: &mut Reader<R>) -> Result<Text, Malformed>
 }
 
 impl Run {
-    pub fn read<R: Read>(reader: &mut Reader<R>) -> Result<Run, Malformed>
+    pub fn read<R: Read>(reader: &mut Reader<R>, room: &mut [u8]) -> Result<Run, Malformed>
         ensures kept { Keeps reader.old reader.new result }
         ensures told { Tells reader.new result }
+        ensures input { IfOk result (λ said. said.input ≤ length room.new) }
     {
         Ok(Run {
-            input: read_input(reader)?,
+            input: read_input(reader, room)?,
             text: read_text(reader)?,
         })
     }

@@ -15,6 +15,7 @@ enum Stop {
     Io(io::Error),
 }
 
+// `?` wants a From of each error; no derive of std writes one.
 impl From<Malformed> for Stop {
     fn from(malformed: Malformed) -> Stop {
         Stop::Malformed(malformed)

@@ -1,7 +1,9 @@
 // Goes through the records of a recording: every call and every run of the program in them is replayed and counted.
 #![tactic(auto)]
 
+ghost use Rattle.std.specs.Prelude.{◌≡◌, IfOk, OnOk, OnErr};
 ghost use Rattle.recording.specs.Reading.{Keeps, Tells};
+ghost use Rattle.replaying.specs.Replays.{Replayed, Calls, GraphReplayed, RecordReplayed};
 
 use arrayvec::ArrayVec;
 use recording::{Malformed, Reader};
@@ -17,6 +19,8 @@ fn replay_call<R: Read>(
 ) -> Result<(), Malformed>
     ensures kept { Keeps reader.old reader.new result }
     ensures told { Tells reader.new result }
+    ensures replayed { OnOk result (Replayed graph.now scores.old scores.new) }
+    ensures unscored { OnErr result (scores.new ≡ scores.old) }
 {
     let Ok(call) = Call::try_from(reader.next()?) else {
         return Err(reader.wrong());
@@ -40,10 +44,30 @@ fn replay_call<R: Read>(
     Ok(())
 }
 
+// So many calls.
+#[tactic(auto, using(crate::specs::Replays::none))]
+fn replay_calls<R: Read>(
+    reader: &mut Reader<R>,
+    graph: &[u16],
+    calls: u16,
+    scores: &mut Scores,
+) -> Result<(), Malformed>
+    ensures kept { Keeps reader.old reader.new result }
+    ensures told { Tells reader.new result }
+    ensures replayed { OnOk result (Calls graph.now scores.old calls scores.new) }
+{
+    reader.state?;
+    for _ in 0..calls {
+        replay_call(reader, graph, scores)?;
+    }
+    Ok(())
+}
+
 // A graph of at most 13,400 words, and its calls.
 fn replay_graph<R: Read>(reader: &mut Reader<R>, scores: &mut Scores) -> Result<(), Malformed>
     ensures kept { Keeps reader.old reader.new result }
     ensures told { Tells reader.new result }
+    ensures replayed { OnOk result (GraphReplayed scores.old scores.new) }
 {
     let size = usize::from(reader.next()?);
     if 13400 < size {
@@ -51,16 +75,17 @@ fn replay_graph<R: Read>(reader: &mut Reader<R>, scores: &mut Scores) -> Result<
     }
     let graph: ArrayVec<u16, 13400> = reader.list(size)?;
     let calls = reader.next()?;
-    for _ in 0..calls {
-        replay_call(reader, graph.as_slice(), scores)?;
-    }
-    Ok(())
+    replay_calls(reader, graph.as_slice(), calls, scores)
 }
 
-/// The next record, by its word.
-pub fn replay_record<R: Read>(reader: &mut Reader<R>, scores: &mut Scores) -> Result<(), Malformed>
+/// The next record. The answer is its kind.
+pub fn replay_record<R: Read>(
+    reader: &mut Reader<R>,
+    scores: &mut Scores,
+) -> Result<Kind, Malformed>
     ensures kept { Keeps reader.old reader.new result }
     ensures told { Tells reader.new result }
+    ensures replayed { IfOk result (λ kind. RecordReplayed kind scores.old scores.new) }
 {
     let Ok(kind) = Kind::try_from(reader.next()?) else {
         return Err(reader.wrong());
@@ -68,8 +93,8 @@ pub fn replay_record<R: Read>(reader: &mut Reader<R>, scores: &mut Scores) -> Re
     match kind {
         Kind::Graph => replay_graph(reader, scores)?,
         Kind::Run => {
-            scoring::score_run(reader, scores)?;
+            scoring::score_run(reader, &mut [0; 72000], scores)?;
         }
     }
-    Ok(())
+    Ok(kind)
 }

@@ -1,5 +1,5 @@
 -- What `agreement` promises of a comparison, for what was read of a call's record.
-use Rattle.std.specs.Prelude.{Bool, List, ℕ, length}
+use Rattle.std.specs.Prelude.{Bool, List, ℕ, length, take}
 use Rattle.records.specs.declared.Check.{Check}
 use Rattle.records.specs.declared.Needed.{Needed}
 use Rattle.records.specs.declared.Prepare.{Prepare}
@@ -20,5 +20,6 @@ abbrev pub CompleteSaid : (graph : List ℕ) → Complete → Bool → Type 0
 CompleteSaid graph s =
     CompleteAgrees graph s.never.items s.atom_never.items (length s.rest.output.items) s.rest.work s.rest.number s.rest.places.items s.rest.output.items
 
-abbrev pub RunSaid : Run → Bool → Type 0
-RunSaid s = ProgramAgrees s.input.items s.text.items
+-- the input is what stands first in the lent bytes
+abbrev pub RunSaid : (bytes : List ℕ) → Run → Bool → Type 0
+RunSaid bytes s = ProgramAgrees (take s.input bytes) s.text.items

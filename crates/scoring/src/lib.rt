@@ -2,7 +2,7 @@
 // `check`, `needed`, `prepare`, `complete` and the program, how many agree and how many differ.
 #![tactic(auto)]
 
-ghost use Rattle.std.specs.Prelude.{◌≡◌, ◌++◌, Some, IfOk, OnOk, OnErr, codes, decimal};
+ghost use Rattle.std.specs.Prelude.{◌≡◌, ◌≤◌, ◌++◌, Some, IfOk, OnOk, OnErr, codes, decimal, length};
 ghost use Rattle.recording.specs.Reading.{Keeps, Tells};
 ghost use Rattle.scoring.specs.Scores.{scored, Scored};
 ghost use Rattle.scoring.specs.Said.{CheckSaid, NeededSaid, PrepareSaid, CompleteSaid, RunSaid};
@@ -53,6 +53,7 @@ pub struct Scores {
 }
 
 // The five differ in what they lend the comparison and in which it is; reading and counting is one line in each, so a trait over them would be longer.
+// Scored and what is said of a result that is an error are facts of a change, from the scores before to those after, so no type of the scores has them.
 
 pub fn score_check<R: Read>(
     reader: &mut Reader<R>,
@@ -161,14 +162,23 @@ pub fn score_complete<R: Read>(
     Ok(said)
 }
 
-pub fn score_run<R: Read>(reader: &mut Reader<R>, scores: &mut Scores) -> Result<Run, Malformed>
+/// The run's input is read into the front of `room`, and is what the program is given.
+pub fn score_run<R: Read>(
+    reader: &mut Reader<R>,
+    room: &mut [u8],
+    scores: &mut Scores,
+) -> Result<Run, Malformed>
     ensures kept { Keeps reader.old reader.new result }
     ensures told { Tells reader.new result }
-    ensures scored { IfOk result (λ said. Scored (RunSaid said) scores.old.program scores.new.program) }
+    ensures input { IfOk result (λ said. said.input ≤ length room.new) }
+    ensures scored { IfOk result (λ said. Scored (RunSaid room.new said) scores.old.program scores.new.program) }
     ensures others { OnOk result (scores.new ≡ record scores.old { program = scores.new.program }) }
     ensures unscored { OnErr result (scores.new ≡ scores.old) }
 {
-    let said = Run::read(reader)?;
-    scores.program.count(agreement::program_agrees(said.input.as_slice(), said.text.as_slice()));
+    let said = Run::read(reader, room)?;
+    let input = &room[..said.input];
+    scores
+        .program
+        .count(agreement::program_agrees(input, said.text.as_slice()));
     Ok(said)
 }

@@ -9,12 +9,3 @@ returns-then-code-needed_code c =
       promised = search rules;
       told = search rules;
     }
-
-pub returns-else-code-needed_code : goal.returns-else-code-needed_code
-returns-else-code-needed_code c =
-    record {
-      code = c.founded_needed-code.result;
-      work = c.founded_needed-code.new.work;
-      promised = search rules;
-      told = search rules;
-    }

@@ -1,6 +1,0 @@
-use Rattle.std.proofs.Common.{◌≡◌}
-use Rattle.arrayvec.specs.ArrayVec.{array_vec_len}
-use Rattle.recording.proofs.Reader.list.Given as goal
-
-abbrev pub invariant-loop : goal.invariant-loop
-invariant-loop g l = array_vec_len l.list ≡ l.counter
