@@ -1,15 +1,15 @@
 -- Words in bytes, and a list that is filled with them from the front.
 use mathlib.Core.Path.{◌≡◌, refl, sym, ap, ◌∙◌}
 use mathlib.Core.List.{List, [], ◌∷◌, ◌++◌}
-use Prim.Native.Nat.{ℕ, zero, suc, ◌+◌, ◌*◌, ◌/◌, ◌≤◌, ◌<◌}
+use Prim.Native.Nat.{ℕ, zero, suc, ◌+◌, ◌*◌, ◌≤◌, ◌<◌}
 use native.Mathlib.Nat.{not-suc-le-zero, add-zero, add-suc, add_comm, mul-zero, mul-suc}
 use native.Mathlib.Numerals.{add-one}
 use Rattle.std.specs.Simd.{first_chunks}
 use native.Mathlib.Omega.{arith}
 use native.Mathlib.Decide.{dec_lt}
 use lib.ListN.{length, get_or, take, drop, set, length-append, get_or-append}
-use lib.Seq.{get_or-take, get_or-drop, drop-drop, take-suc-set, get_or_at, length-take-le}
-use Rattle.input.specs.Bytes.{little_endian, tabulate, word_at, Decoded}
+use lib.Seq.{get_or-take, get_or-drop, drop-drop, take-suc-set, get_or_at}
+use Rattle.input.specs.Bytes.{little_endian, tabulate, word_at}
 
 -- ---- one number
 
@@ -41,10 +41,6 @@ chunk_word n k i bytes d w h e = rw (e, w, chunk_at n k i bytes d h, little_take
 
 -- ---- a list of words, filled from the front
 
-pub fill_start : {W : Type 0} (g : ℕ → W) (l : List W) → take 0 l ≡ tabulate g 0
-unfolding tabulate
-fill_start g l = refl
-
 pub fill_next : {W : Type 0} (g : ℕ → W) (l : List W) (i : ℕ) (v : W) → take i l ≡ tabulate g i → i < length l → v ≡ g i → take (i + 1) (set l i v) ≡ tabulate g (i + 1)
 unfolding tabulate
 fill_next g l i v p h e = rw (add-one, take-suc-set l i v h, p, e)
@@ -64,8 +60,3 @@ tabulate_at g (suc n) i h = go (dec_lt i n) (tabulate_at g n i)
     go (no l) ih =
         let e : i ≡ n = omega arith in
         get_or_at (tabulate g n) (g n) [] 0 i (tabulate_length g n ∙ sym e) ∙ ap g (sym e)
-
-pub fill_whole : {W : Type 0} (of : ℕ → W) (k : ℕ) (bytes : List ℕ) (l : List W) (i n : ℕ) → take i l ≡ tabulate (λ j. of (word_at k bytes j)) i → i ≡ n → n ≡ length bytes / k → n ≤ length l
-    → Decoded of k bytes l n
-fill_whole of k bytes l i n p e c h =
-    record { count = c; within = h; exact = sym (length-take-le n l h); decoded = rw (← c, ← e) p }

@@ -17,6 +17,7 @@ pub trait LittleEndian<const K: usize>: Copy {
         ensures { result ≡ of (little_endian bytes.now 0 K) };
 }
 
+// An impl for each type, and not one: `from_le_bytes` is a function of each type and a method of no trait.
 impl LittleEndian<2> for u16 {
     ghost of = { λ n. n };
 
@@ -40,6 +41,7 @@ impl LittleEndian<8> for u64 {
 }
 
 // The words of all the bytes, in lent memory (no heap), and how many they are. What is left of the bytes at the end is dropped.
+#[tactic(auto, unfolding(crate::specs::Bytes::tabulate))]
 pub fn words<W: LittleEndian<K>, const K: usize>(bytes: &[u8], words: &mut [W]) -> usize
     requires { length bytes.now / K ≤ length words.old }
     ensures { Decoded W.of K bytes.now words.new result }

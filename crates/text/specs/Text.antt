@@ -39,10 +39,6 @@ refused_line number place = line refused_word (number ∷ place ∷ [])
 abbrev pub missing_line : List ℕ → List ℕ
 missing_line atoms = line missing_word (length atoms ∷ atoms)
 
--- a number, or none
-abbrev pub only : Bool → ℕ → List ℕ
-only b n = cond b (n ∷ []) []
-
 -- what a function that appends leaves: the text stands at `at`, all before it and all behind it is as it was, and the next place is r
 pub record Appended (old : List ℕ) (at : ℕ) (text new : List ℕ) (r : ℕ) : Type 0 where
   pub end : r ≡ at + length text

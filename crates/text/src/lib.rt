@@ -1,96 +1,93 @@
-// Lines of text in a lent buffer, each appended where the last one ended.
+// The program's lines, put together in a list and written into lent memory.
 #![tactic(auto)]
 
-ghost use Rattle.std.specs.Prelude.{◌≡◌, [], ◌∷◌, ◌++◌, ◌+◌, ◌*◌, ◌<◌, ◌≤◌, length};
-ghost use Rattle.std.specs.List.{count_by, range_with_len};
+ghost use Rattle.std.specs.Prelude.{◌≡◌, ◌∷◌, ◌++◌, ◌+◌, ◌<◌, ◌≤◌, length};
+ghost use Rattle.arrayvec.specs.ArrayVec.{array_vec_len};
 ghost use Rattle.theory.specs.Sets.{members};
 ghost use Rattle.theory.specs.Words.{bit_at};
-ghost use Rattle.text.specs.Text.{decimal, spaced, refused_line, loops_line, missing_line, Appended};
+ghost use Rattle.text.specs.Text.{decimal, line, refused_line, loops_line, missing_line, Appended};
 
-// The text, at `at`, and where it ends. `out` and `at` are no struct: one that holds a `&mut` needs a clause more in each of these contracts, that it still
-// holds the same one.
-fn put(out: &mut [u8], at: usize, text: &[u8]) -> usize
-    requires { at + length text.now ≤ length out.old }
-    ensures { Appended out.old at text.now out.new result }
+use arrayvec::ArrayVec;
+
+// Room for the longest text: `loops yes`, and `missing` with 1,024 atoms.
+type Text = ArrayVec<u8, 5144>;
+
+fn put(text: &mut Text, bytes: &[u8])
+    requires { array_vec_len text.old + length bytes.now ≤ 5144 }
+    ensures { text.new.items ≡ text.old.items ++ bytes.now }
 {
-    let end = at + text.len();
-    out[at..end].copy_from_slice(text);
-    end
+    text.try_extend_from_slice(bytes).unwrap();
 }
 
-// In decimal.
-fn put_number(out: &mut [u8], at: usize, n: usize) -> usize
-    requires { at + length (decimal n) ≤ length out.old }
-    ensures { Appended out.old at (decimal n) out.new result }
+// A space, and the number in decimal. Here, in `put_line`, `put_refusal` and `put_lines` the bytes are put one after the other, and no `Display` prints them:
+// the words are fixed byte strings, and `write!(text, " {n}")` doesn't prove, since its contract doesn't say that it succeeds where there is room.
+fn put_number(text: &mut Text, n: usize)
+    requires { array_vec_len text.old + (1 + length (decimal n)) ≤ 5144 }
+    ensures { text.new.items ≡ text.old.items ++ 32 ∷ decimal n }
 {
-    put(out, at, itoa::Buffer::new().format(n).as_bytes())
+    put(text, b" ");
+    put(text, itoa::Buffer::new().format(n).as_bytes());
 }
 
-// A space, and the number.
-fn put_spaced(out: &mut [u8], at: usize, n: usize) -> usize
-    requires { at + (1 + length (decimal n)) ≤ length out.old }
-    ensures { Appended out.old at (32 ∷ decimal n) out.new result }
+// A word, the numbers after it, and the line's end.
+#[tactic(auto, unfolding(crate::specs::Text::spaced))]
+fn put_line(text: &mut Text, word: &[u8], numbers: &[usize])
+    requires { array_vec_len text.old + length (line word.now numbers.now) ≤ 5144 }
+    ensures { text.new.items ≡ text.old.items ++ line word.now numbers.now }
 {
-    let next = put(out, at, b" ");
-    put_number(out, next, n)
+    put(text, word);
+    for &n in numbers {
+        put_number(text, n);
+    }
+    put(text, b"\n");
 }
 
-// `refused`, the number and the place.
+// The text at the front of lent memory, and where it ends. `put_refusal` and `put_lines` fill what a caller lends, as there is no heap, and promise that all behind the text stays
+// as it was: `Appended` is that promise in one word, and a list that they return would not have it.
+fn write(out: &mut [u8], text: &[u8]) -> usize
+    requires { length text.now ≤ length out.old }
+    ensures { Appended out.old 0 text.now out.new result }
+{
+    out[..text.len()].copy_from_slice(text);
+    text.len()
+}
+
+// `refused`, the number and the place. They are numbers here, since that is how they are printed.
+#[tactic(auto, using(crate::proofs::TextLaws::refused_few))]
 pub fn put_refusal(out: &mut [u8], number: usize, place: usize) -> usize
     requires { (number < 65536) × (place < 65536) × (20 ≤ length out.old) }
     ensures { Appended out.old 0 (refused_line number place) out.new result }
 {
-    let word = put(out, 0, b"refused");
-    let first = put_spaced(out, word, number);
-    let second = put_spaced(out, first, place);
-    put(out, second, b"\n")
+    let mut text = Text::new();
+    put_line(&mut text, b"refused", &[number, place]);
+    write(out, &text)
 }
 
-fn put_loops(out: &mut [u8], cycle: bool) -> usize
-    requires { 10 ≤ length out.old }
-    ensures { Appended out.old 0 (loops_line cycle) out.new result }
+// The numbers below n whose bits are set, ascending, and before them how many they are.
+#[tactic(auto, using(crate::proofs::TextLaws::members_few, crate::proofs::TextLaws::members_none, crate::proofs::TextLaws::members_with, crate::proofs::TextLaws::members_without))]
+fn counted(mask: &[u64], n: usize) -> ArrayVec<usize, 1025>
+    requires { n ≤ 1024 }
+    ensures { result.items ≡ length (members n (bit_at mask.now)) ∷ members n (bit_at mask.now) }
 {
-    let line: &[u8] = if cycle { b"loops yes\n" } else { b"loops no\n" };
-    put(out, 0, line)
-}
-
-// How many of the first n bits are set.
-fn count(mask: &[u64], n: usize) -> usize
-    ensures { result ≡ count_by (bit_at mask.now) (range_with_len 0 n) }
-{
-    (0..n).filter(|&i| mask::bit(mask, i)).count()
-}
-
-// The numbers below n whose bits are set, ascending.
-fn put_bits(out: &mut [u8], at: usize, mask: &[u64], n: usize) -> usize
-    requires { (n ≤ 1024) × (at + 5 * n ≤ length out.old) }
-    ensures { Appended out.old at (spaced (members n (bit_at mask.now))) out.new result }
-{
-    let mut next = at;
+    let mut numbers = ArrayVec::new();
     for i in 0..n {
         if mask::bit(mask, i) {
-            next = put_spaced(out, next, i);
+            numbers.push(i);
         }
     }
-    next
+    numbers.insert(0, numbers.len());
+    numbers
 }
 
-// `missing`, the count and the atoms.
-fn put_missing(out: &mut [u8], at: usize, mask: &[u64], atoms: usize) -> usize
-    requires { (atoms ≤ 1024) × (at + 14 + 5 * atoms ≤ length out.old) }
-    ensures { Appended out.old at (missing_line (members atoms (bit_at mask.now))) out.new result }
-{
-    let word = put(out, at, b"missing");
-    let first = put_spaced(out, word, count(mask, atoms));
-    let last = put_bits(out, first, mask, atoms);
-    put(out, last, b"\n")
-}
-
-// Both lines.
+// Both lines: whether there is a loop, and `missing` with the count and the atoms.
+#[tactic(auto, using(crate::proofs::TextLaws::loops_few, crate::proofs::TextLaws::missing_few))]
 pub fn put_lines(out: &mut [u8], cycle: bool, mask: &[u64], atoms: usize) -> usize
     requires { (atoms ≤ 1024) × (5144 ≤ length out.old) }
     ensures { Appended out.old 0 (loops_line cycle ++ missing_line (members atoms (bit_at mask.now))) out.new result }
 {
-    let at = put_loops(out, cycle);
-    put_missing(out, at, mask, atoms)
+    let mut text = Text::new();
+    let answer: &[u8] = if cycle { b"loops yes\n" } else { b"loops no\n" };
+    put(&mut text, answer);
+    put_line(&mut text, b"missing", &counted(mask, atoms));
+    write(out, &text)
 }

@@ -1,9 +1,13 @@
+use mathlib.Core.Path.{ap}
 use native.Mathlib.Omega.{arith}
-use Rattle.text.proofs.TextLaws.{number_text}
+use lib.ListN.{length, length-append}
+use Rattle.text.proofs.TextLaws.{append_then, number_text}
 use Rattle.text.proofs.put_number.Goals as goal
 
-pub put-requires : goal.put-requires
-put-requires c = rw (number_text c.args.n (omega arith) c.as_bytes.ensures.value c.format.ensures.text) c.requires
+pub put-requires-2 : goal.put-requires-2
+put-requires-2 c =
+    rw (c.put.ensures, length-append) (omega (arith, c.requires, ap length (number_text c.args.n (omega arith) c.as_bytes.ensures.value c.format.ensures.text)))
 
 pub returns : goal.returns
-returns c = rw (number_text c.args.n (omega arith) c.as_bytes.ensures.value c.format.ensures.text) at c.put.ensures
+returns c =
+    append_then _ _ _ c.put.ensures (rw (number_text c.args.n (omega arith) c.as_bytes.ensures.value c.format.ensures.text) at c.put-2.ensures)
