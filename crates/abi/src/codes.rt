@@ -53,6 +53,7 @@ impl Code for u64 {
     }
 }
 
+// This and `call_code` are one call each, over the functions that numbers has for the answer: a trait over both answers would be longer.
 pub fn checked_code<C: Code>(checked: Result<(), Refusal>) -> C
     requires { (answer_of checked).place < C.limit }
     ensures { Tells C.limit (answer_of checked) (C.value result) }

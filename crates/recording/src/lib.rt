@@ -55,7 +55,7 @@ fn read_full<R: Read>(source: &mut R, bytes: &mut [u8]) -> usize
     done
 }
 
-// Four words, low first.
+// Four words, low first. (std makes a number of bytes alone: each word would be taken apart for it.)
 fn wide(a: u16, b: u16, c: u16, d: u16) -> u64
     ensures { result ≡ a + 65536 * b + 4294967296 * c + 281474976710656 * d }
 {

@@ -244,7 +244,7 @@ pub struct Run {
     pub text: Text,
 }
 
-// The program's input goes into lent room, behind its length: two words, low first.
+// The program's input goes into lent room, behind its length: two words, low first, put together as `recording` does it.
 fn read_input<R: Read>(reader: &mut Reader<R>, room: &mut [u8]) -> Result<usize, Malformed>
     ensures kept { Keeps reader.old reader.new result }
     ensures told { Tells reader.new result }

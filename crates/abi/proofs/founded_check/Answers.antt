@@ -11,6 +11,3 @@ checked_code-requires c =
     let p : get_or c.args.graph.now 3 0 < 65536 = omega (arith, c.shared_slice_known-1.given 3) in
     let k : get_or c.args.graph.now 4 0 < 65536 = omega (arith, c.shared_slice_known-1.given 4) in
     rw c.check.ensures (graph_place (omega arith) edition1 c.args.graph.now n p k)
-
-pub returns : goal.returns
-returns c = rw (← c.check.ensures) c.checked_code.ensures

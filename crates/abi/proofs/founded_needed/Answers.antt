@@ -11,6 +11,3 @@ needed_code-requires c =
     let p : get_or c.args.graph.now 3 0 < 65536 = omega (arith, c.shared_slice_known-1.given 3) in
     let k : get_or c.args.graph.now 4 0 < 65536 = omega (arith, c.shared_slice_known-1.given 4) in
     needed_placed 65536 edition1 c.args.graph.now c.args.work.now c.needed.ensures.result_value (omega arith) n p k
-
-pub returns : goal.returns
-returns c = needed_told 65536 edition1 c.needed.ensures.result_value c.needed.ensures.work_after c.needed.ensures.variant c.needed_code.ensures

@@ -24,6 +24,3 @@ area_words-requires g c = accepted g.W.Word.edition _ (sym c.in_ok-check.ensures
 
 pub returns-then-work-area_words : goal.returns-then-work-area_words
 returns-then-work-area_words g c = completes (work_refused g.W.Word.edition _ _ _ _ (sym c.in_ok-check.ensures) (sym c.bad_lengths.ensures ∙ c.if-bad_lengths.false) (work_bad g.W.Word.edition (g.W.Word.numbers c.args.graph.now) (λ e. c.if-work-area_words.true (sym (numbers_length g.met.W.Word.each c.args.work.now) ∙ e)) c.area_words.ensures)) (not_zero refl)
-
-pub complete_accepted-requires : goal.complete_accepted-requires
-complete_accepted-requires g c = (sym c.in_ok-check.ensures, sym c.bad_lengths.ensures ∙ c.if-bad_lengths.false, numbers_length g.met.W.Word.each c.args.work.now ∙ c.if-work-area_words.false ∙ c.area_words.ensures)

@@ -24,6 +24,3 @@ area_words-requires g c = accepted g.W.Word.edition _ (sym c.in_ok-check.ensures
 
 pub returns-then-work-area_words : goal.returns-then-work-area_words
 returns-then-work-area_words g c = prepares (work_refused g.W.Word.edition _ _ _ _ (sym c.in_ok-check.ensures) (mask_tested _ c.bad_mask.ensures c.atoms.ensures c.if-bad_mask.false) (work_bad g.W.Word.edition (g.W.Word.numbers c.args.graph.now) (λ e. c.if-work-area_words.true (sym (numbers_length g.met.W.Word.each c.args.work.now) ∙ e)) c.area_words.ensures)) (not_zero refl)
-
-pub prepare_accepted-requires : goal.prepare_accepted-requires
-prepare_accepted-requires g c = (sym c.in_ok-check.ensures, mask_tested _ c.bad_mask.ensures c.atoms.ensures c.if-bad_mask.false, numbers_length g.met.W.Word.each c.args.work.now ∙ c.if-work-area_words.false ∙ c.area_words.ensures)

@@ -13,12 +13,6 @@ bases_of-b-requires g c = let a = accepted g.W.Word.edition (g.W.Word.numbers c.
 pub cyclic_atoms-requires : goal.cyclic_atoms-requires
 cyclic_atoms-requires g c = (accepted g.W.Word.edition (g.W.Word.numbers c.args.graph.now) c.requires.0, rw (numbers_length g.met.W.Word.each c.args.work.now) c.bases_of-b.ensures)
 
-pub hand_out-requires : goal.hand_out-requires
-unfolding Marked
-hand_out-requires g c =
-    let k = c.in-Ok.ensures in
-    (omega (arith, numbers_length g.met.W.Word.each c.args.work.now, k.size, c.bases_of-b.ensures.laid, c.bases_of-b.ensures.ends), mask_fits _ _ c.requires.1 ∙ rw c.bases_of-b.ensures.atoms)
-
 pub returns-in-Ok : goal.returns-in-Ok
 unfolding Marked
 returns-in-Ok g c =
