@@ -1,4 +1,4 @@
--- A code that is made of an answer's number and place tells the answer (`told`). The loop test's number (`needed_told`): it tells the outcome, and on success it is 1 exactly if there is a closed walk. How many words the work area has: `words_refused`, `words_accepted`.
+-- A code that is made of an answer's number and place tells the answer (`told`). Preparation and pass, whose code tells their answer (`prepared_told`, `completed_told`). The loop test's number (`needed_told`): it tells the outcome, and on success it is 1 exactly if there is a closed walk. How many words the work area has: `words_refused`, `words_accepted`.
 use mathlib.Core.Path.{◌≡◌, refl, sym, ap, ◌∙◌}
 use mathlib.Core.Logic.{◌↔◌}
 use mathlib.Core.Bool.{Bool, true, false, not, cond, true≢false}
@@ -8,6 +8,7 @@ use native.Mathlib.Omega.{arith}
 use borrow.Author.Tests.{eq-eqb}
 use lib.Dec.{eqb}
 use lib.ListN.{length, get_or}
+use Rattle.std.specs.Prelude.{Result}
 use Rattle.theory.specs.Words.{theory_of}
 use Rattle.theory.specs.Accepted.{Edition, area_of}
 use Rattle.theory.specs.Founded.{has_cycle}
@@ -17,7 +18,9 @@ use Rattle.refusals.specs.declared.Refusal.{Refusal}
 use Rattle.refusals.proofs.RefusedLaws.{number_some}
 use Rattle.refusals.proofs.PlaceLaws.{if_place, or_place, graph_place}
 use Rattle.cycles.specs.Outcome.{Outcome, refused, loops, refusal, outcome, work_after, ClosedWalk}
-use Rattle.abi.specs.Codes.{Tells, NeedTells, Placed, Needed, work_words}
+use Rattle.founded.specs.declared.CallError.{CallError}
+use Rattle.founded.specs.Answers.{call_of, Prepares, Completes}
+use Rattle.abi.specs.Codes.{Tells, NeedTells, Placed, Needed, PreparedAs, CompletedAs, work_words}
 
 pub told : {lim : ℕ} {a : Answer} {n p r : ℕ} → n ≡ a.number → p ≡ a.place → Tells lim (refuse n p) r → Tells lim a r
 told e q t = rw (e, q) at t
@@ -27,6 +30,13 @@ said_1 true e = (λ _. refl, λ _. e)
 said_1 false e = (λ h. absurd (omega (arith, e, h)), λ h. absurd (true≢false (sym h)))
 
 module _ (lim : ℕ) (ed : Edition) where
+  pub prepared_told : {graph output work output' work' : List ℕ} {a : Result (Unit {0}) CallError} {r : ℕ} → Prepares ed graph output work output' work' a → Tells lim (call_of a) r → PreparedAs lim ed graph output work output' work' r
+  prepared_told h t = record { told = rw (← h.answer) t; leaves = rw (← h.answer) h.leaves }
+
+  pub completed_told : {graph never atom_never output work output' work' : List ℕ} {a : Result (Unit {0}) CallError} {r : ℕ} → Completes ed graph never atom_never output work output' work' a → Tells lim (call_of a) r
+      → CompletedAs lim ed graph never atom_never output work output' work' r
+  completed_told h t = record { told = rw (← h.answer) t; leaves = rw (← h.answer) h.leaves }
+
   pub needed_told : {o : Outcome} {graph work work' : List ℕ} {r : ℕ} → o ≡ outcome ed graph work → work' ≡ work_after ed graph work
       → ((yes : Bool) → o ≡ loops yes → (yes ≡ true) ↔ ClosedWalk (theory_of graph)) → NeedTells lim o r → Needed lim ed graph work work' r
   needed_told {o = o} {graph = graph} {work = work} {r = r} e w h t =

@@ -1,13 +1,12 @@
 -- An answer as one number, and what each call promises of the number that it returns. lim is the number of values of a graph's word: 65,536 for words of 16 bits,
 -- whose codes have 32 bits, and 4,294,967,296 for words of 32 bits, whose codes have 64.
-use Rattle.std.specs.Prelude.{◌≡◌, ◌↔◌, cond, List, ℕ, ◌+◌, ◌*◌, ◌<◌, eqb, Result}
+use Rattle.std.specs.Prelude.{◌≡◌, ◌↔◌, cond, List, ℕ, ◌+◌, ◌*◌, ◌<◌, eqb, length}
 use Rattle.theory.specs.Words.{theory_of}
 use Rattle.theory.specs.Accepted.{Edition, area_of}
 use Rattle.refusals.specs.Answer.{Answer}
 use Rattle.refusals.specs.Refusals.{graph_answer}
 use Rattle.cycles.specs.Outcome.{Outcome, refused, loops, refusal, outcome, work_after, ClosedWalk}
-use Rattle.founded.specs.Answers.{call_of, Prepares, Completes}
-use Rattle.founded.specs.declared.CallError.{CallError}
+use Rattle.founded.specs.Answers.{prepare_answer, complete_answer, PrepareLeaves, CompleteLeaves}
 
 -- the number of the refusal in the high half and its place in the low one; success is 0
 abbrev pub code_of : (lim : ℕ) → Answer → ℕ
@@ -33,16 +32,14 @@ module _ (lim : ℕ) (ed : Edition) where
     pub work_after : work' ≡ work_after ed graph work
     pub closed_walk : (refusal ed graph work).number ≡ 0 → (r ≡ 1) ↔ ClosedWalk (theory_of graph)
 
-  -- preparation and pass: r is the code of an answer that keeps the call's promise
+  -- preparation and pass: r is the answer's code, and they leave what belongs to the answer
   pub record PreparedAs (graph output work output' work' : List ℕ) (r : ℕ) : Type 0 where
-    pub answer : Result (Unit {0}) CallError
-    pub told : Tells lim (call_of answer) r
-    pub holds : Prepares ed graph output work output' work' answer
+    pub told : Tells lim (prepare_answer ed graph (length output) (length work)) r
+    pub leaves : PrepareLeaves graph output work output' work' (prepare_answer ed graph (length output) (length work)).number
 
   pub record CompletedAs (graph never atom_never output work output' work' : List ℕ) (r : ℕ) : Type 0 where
-    pub answer : Result (Unit {0}) CallError
-    pub told : Tells lim (call_of answer) r
-    pub holds : Completes ed graph never atom_never output work output' work' answer
+    pub told : Tells lim (complete_answer ed graph (length never) (length atom_never) (length output) (length work)) r
+    pub leaves : CompleteLeaves graph never atom_never output work output' work' (complete_answer ed graph (length never) (length atom_never) (length output) (length work)).number
 
 -- how many words the work area of an accepted graph has; 0 for a graph that is refused
 abbrev pub work_words : Edition → List ℕ → ℕ

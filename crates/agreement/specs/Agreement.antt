@@ -1,13 +1,10 @@
 -- When a call agrees with what is recorded of it. Output and work area are soiled before a call, so that a word left alone or wrongly cleared shows.
 use Rattle.std.specs.Prelude.{◌≡◌, Bool, true, ◌||◌, cond, List, [], ◌∷◌, ◌↔◌, ℕ, ◌/◌, ◌%◌, eqb, length, replicate}
 use Rattle.theory.specs.Sets.{Mem}
-use Rattle.theory.specs.Words.{theory_of}
 use Rattle.theory.specs.Accepted.{edition1}
-use Rattle.theory.specs.Cases.{absorbed_in}
 use Rattle.refusals.specs.Answer.{refuse}
 use Rattle.refusals.specs.Refusals.{graph_answer}
-use Rattle.input.specs.Input.{graph_of, masks_of}
-use Rattle.report.specs.Report.{answer as program_answer, report_text}
+use Rattle.report.specs.Report.{report_text}
 use Rattle.abi.specs.Codes.{code_of, Needed, PreparedAs, CompletedAs}
 
 -- n words of a soiled work area, and of a soiled output
@@ -66,8 +63,6 @@ PrepareAgrees graph k n = OutcomeAgrees (PreparedAs 65536 edition1 graph (soiled
 abbrev pub CompleteAgrees : (graph never atom_never : List ℕ) (k n number : ℕ) (places words : List ℕ) → Bool → Type 0
 CompleteAgrees graph never atom_never k n = OutcomeAgrees (CompletedAs 65536 edition1 graph never atom_never (soiled_wide k) (soiled n))
 
--- the program's text; the place of a 12 is free as in the program's promise
-pub record ProgramAgrees (input text : List ℕ) (r : Bool) : Type 0 where
-  pub place : ℕ
-  pub absorbed : (program_answer (graph_of input) (masks_of input) place).number ≡ 12 → Mem place (absorbed_in (theory_of (graph_of input)))
-  pub told : (r ≡ true) ↔ (report_text input place ≡ text)
+-- the program's text
+abbrev pub ProgramAgrees : (input text : List ℕ) → Bool → Type 0
+ProgramAgrees input text r = (r ≡ true) ↔ (report_text input ≡ text)

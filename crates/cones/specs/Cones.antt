@@ -2,11 +2,13 @@
 use Rattle.std.specs.Prelude.{◌≡◌, ◌↔◌, ◌&&◌, cond, List, ℕ, ◌+◌, ◌≤◌, ◌<◌, eqb, length, take, drop, Result, Ok, Err}
 use Rattle.theory.specs.Sets.{Is, Set, Mem, any, filled, members}
 use Rattle.theory.specs.Counts.{Distinct}
-use Rattle.theory.specs.Theory.{Theory, Kind}
+use Rattle.theory.specs.Theory.{Theory}
 use Rattle.theory.specs.Edges.{body_cone}
 use Rattle.theory.specs.Founded.{cyclic, cyclic_cone}
 use Rattle.area.specs.declared.Bases.{Bases}
 use Rattle.area.specs.Views.{mark_in, flag_at}
+use Rattle.refusals.specs.Answer.{accept, refuse}
+use Rattle.refusals.specs.Refusals.{absorbed_row}
 use Rattle.cones.specs.declared.Cone.{Cone}
 use Rattle.cones.specs.declared.Absorbed.{Absorbed}
 
@@ -55,10 +57,10 @@ pub record Held (th : Theory) (s facts : Set) (b : Bases) (w : List ℕ) (c : Co
   pub few : c.facts ≤ th.producers
   pub lists : facts_of b w c.facts ≡ members th.producers facts
 
--- the body cone, none of whose nodes is absorbed; or an absorbed node of it
+-- the body cone, where row 12 accepts; or the node that it refuses
 unfoldable pub body_coned : Theory → Bases → List ℕ → Result ℕ Absorbed → Type 0
-body_coned th b w (Ok count) = Found th (body_cone th) b w count × ((n : ℕ) → Is (body_cone th n) → th.kind n ≡ Kind.Absorbed → ⊥)
-body_coned th b w (Err e) = (e.node < th.nodes) × Is (body_cone th e.node) × (th.kind e.node ≡ Kind.Absorbed)
+body_coned th b w (Ok count) = Found th (body_cone th) b w count × (absorbed_row th ≡ accept)
+body_coned th b w (Err e) = absorbed_row th ≡ refuse 12 e.node
 
 -- the cyclic cone, and the facts with a cyclic head
 abbrev pub cyclic_coned : Theory → Bases → List ℕ → Cone → Type 0

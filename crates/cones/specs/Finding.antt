@@ -1,12 +1,12 @@
 -- What the search for a cone keeps, over lists and functions; and as the work area has it. The search is that of the Rust's `prepare_cone`: the
 -- list of the nodes found is its queue.
-use Rattle.std.specs.Prelude.{◌≡◌, ◌⊎◌, ◌&&◌, cond, List, [], ℕ, suc, ◌≤◌, ◌<◌, get_or, length, drop}
+use Rattle.std.specs.Prelude.{◌≡◌, ◌⊎◌, cond, List, [], ℕ, suc, ◌≤◌, ◌<◌, get_or, length, drop}
 use Rattle.std.proofs.Common.{ap, sym, ◌∙◌}
 use lib.Seq.{get_or-drop}
 use Rattle.theory.specs.Sets.{Is, Set, Mem, member, members}
 use Rattle.theory.specs.Counts.{Distinct}
-use Rattle.theory.specs.Theory.{Theory, absorbed}
-use Rattle.theory.specs.Edges.{cone, body_cone}
+use Rattle.theory.specs.Theory.{Theory}
+use Rattle.theory.specs.Edges.{cone}
 use Rattle.theory.specs.Words.{theory_of}
 use Rattle.theory.specs.Accepted.{Edition, Accepted}
 use Rattle.area.specs.declared.Bases.{Bases}
@@ -70,7 +70,3 @@ pub record Begun (lim : ℕ) (th : Theory) (wanted : Set) (b : Bases) (w : List 
 -- what a search leaves of the words w₀: the cone of the producers wanted, and the facts among them
 abbrev pub Searched : (th : Theory) (wanted : Set) → Bases → (w₀ w : List ℕ) → Cone → Type 0
 Searched th wanted b w₀ w c = Held th (cone th wanted) (fact_by th wanted) b w c × Kept b w₀ w
-
--- the nodes that refusal 12 is for
-abbrev pub refused : Theory → Set
-refused th n = body_cone th n && absorbed (th.kind n)

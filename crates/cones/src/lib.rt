@@ -2,19 +2,21 @@
 // search marks a node when it finds it, and the list of the nodes found is its queue.
 #![tactic(auto)]
 
-ghost use Rattle.std.specs.Prelude.{◌≡◌, false, cond, List, ℕ, ◌+◌, ◌≤◌, ◌<◌, length, MatchOption};
-ghost use Rattle.theory.specs.Sets.{Is, Set};
+ghost use Rattle.std.specs.Prelude.{◌≡◌, cond, List, ℕ, ◌+◌, ◌≤◌, ◌<◌, length};
+ghost use Rattle.theory.specs.Sets.{Set};
 ghost use Rattle.theory.specs.Theory.{Theory};
 ghost use Rattle.theory.specs.Words.{theory_of};
-ghost use Rattle.theory.specs.Edges.{body_cone};
+ghost use Rattle.theory.specs.Edges.{body_cone, absorbed_node};
 ghost use Rattle.theory.specs.Accepted.{Accepted};
+ghost use Rattle.refusals.specs.Search.{Finds};
 ghost use Rattle.area.specs.declared.Bases.{Bases};
 ghost use Rattle.area.specs.Layout.{Laid, bases_of, Based};
 ghost use Rattle.cones.specs.Cones.{node_mark, headed, cyclic_headed, Flagged, Kept, body_coned, cyclic_coned};
-ghost use Rattle.cones.specs.Finding.{Given, kept_flags, Stage, Searching, Begun, Searched, refused};
+ghost use Rattle.cones.specs.Finding.{Given, kept_flags, Stage, Searching, Begun, Searched};
 
 use area::Bases;
 use chains::Step;
+use refusals::search::first;
 use words::Word;
 
 // How many nodes a cone has, and how many facts were wanted.
@@ -202,19 +204,19 @@ fn find<W: Word, S: Wanted<W>>(graph: &[W], work: &mut [W], wanted: S) -> Cone
 fn refused_at<W: Word>(graph: &[W], work: &[W], b: Bases, n: usize) -> bool
     requires accepted { Accepted W.edition (W.numbers graph.now) × Based (W.numbers graph.now) (length (W.numbers work.now)) b × (n < (theory_of (W.numbers graph.now)).nodes) }
     requires mark { node_mark b (W.numbers work.now) n ≡ cond (body_cone (theory_of (W.numbers graph.now)) n) 1 0 }
-    ensures { result ≡ refused (theory_of (W.numbers graph.now)) n }
+    ensures { result ≡ absorbed_node (theory_of (W.numbers graph.now)) n }
 {
     let mark = b.states + (b.atoms + n);
     words::at(work, mark) == FOUND && graph::node_kind(graph, n).absorbed()
 }
 
-// The lowest of them (the clause says that it is one of them).
+// Row 12: the first of them.
 fn first_refused<W: Word>(graph: &[W], work: &[W], b: Bases) -> Option<usize>
     requires accepted { Accepted W.edition (W.numbers graph.now) × Based (W.numbers graph.now) (length (W.numbers work.now)) b }
     requires marks { (n : ℕ) → n < (theory_of (W.numbers graph.now)).nodes → node_mark b (W.numbers work.now) n ≡ cond (body_cone (theory_of (W.numbers graph.now)) n) 1 0 }
-    ensures { MatchOption result ((n : ℕ) → n < b.nodes → refused (theory_of (W.numbers graph.now)) n ≡ false) (λ n. (n < b.nodes) × Is (refused (theory_of (W.numbers graph.now)) n)) }
+    ensures { Finds (absorbed_node (theory_of (W.numbers graph.now))) 0 b.nodes result }
 {
-    (0..b.nodes).find(|&n| refused_at(graph, work, b, n))
+    first(0, b.nodes, |n| refused_at(graph, work, b, n))
 }
 
 // The body cone (document 01: the first cone).

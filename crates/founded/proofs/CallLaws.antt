@@ -4,26 +4,25 @@ use mathlib.Core.Path.{◌≡◌, refl, sym, ◌∙◌}
 use mathlib.Core.Logic.{◌≢◌}
 use mathlib.Core.Bool.{Bool, true, false, cond}
 use mathlib.Core.List.{List, [], ◌∷◌}
-use Prim.Native.Nat.{ℕ}
+use Prim.Native.Nat.{ℕ, zero, suc}
 use borrow.Author.Tests.{eq-eqb, ne_eqb, eqb-true, not-false}
 use lib.Dec.{eqb}
 use lib.ListN.{length, get_or}
-use Rattle.theory.specs.Sets.{filled}
 use Rattle.theory.specs.Theory.{Theory}
 use Rattle.theory.specs.Words.{theory_of, bit_at}
 use Rattle.theory.specs.Accepted.{Edition, area_of}
 use Rattle.theory.specs.Founded.{cyclic, missing}
-use Rattle.theory.specs.Cases.{absorbed_in}
+use Rattle.theory.specs.Edges.{absorbed_node}
 use Rattle.theory.proofs.SetLaws.{clash, is_false, or_right}
 use Rattle.theory.proofs.CycleLaws.{cyclic_walk}
 use Rattle.theory.proofs.UnfoundedLaws.{missing_exactly}
 use Rattle.mask.specs.Mask.{words_of}
-use Rattle.refusals.specs.Answer.{accept, refuse, refuse_if, or_next, first_refusal}
-use Rattle.refusals.specs.Refusals.{graph_rows, graph_answer}
+use Rattle.refusals.specs.Answer.{accept, refuse, refuse_if, refuse_first, or_next, first_refusal}
+use Rattle.refusals.specs.Refusals.{graph_rows, graph_answer, absorbed_row}
 use Rattle.refusals.proofs.RowLaws.{rows_append}
 use Rattle.founded.specs.declared.CallError.{CallError}
 use Rattle.std.specs.Prelude.{Result, Ok}
-use Rattle.founded.specs.Answers.{call_of, bad_mask, bad_lengths, bad_work, absorbed_row, prepare_answer, complete_answer, Prepares, Completes}
+use Rattle.founded.specs.Answers.{call_of, bad_mask, bad_lengths, bad_work, prepare_answer, complete_answer, Prepares, Completes}
 use Rattle.founded.proofs.OutcomeLaws.{Answered}
 use Rattle.founded.proofs.OutputLaws.{cyclic_list, missing_list}
 
@@ -34,10 +33,11 @@ unfolding prepare_answer
 prepares {ws = ws} {r = r} h d = record {
   answer = h.answer;
   done = d;
-  absorbed = h.absorbed;
-  output_after = h.output_after;
-  work_after = h.work_after;
-  closed_walk = λ q a. rw (h.output_after, eq-eqb (call_of r).number 0 q, cyclic_list ws) (cyclic_walk (theory_of ws) a);
+  leaves = record {
+    output_after = h.output_after;
+    work_after = h.work_after;
+    closed_walk = λ q a. rw (h.output_after, eq-eqb (call_of r).number 0 q, cyclic_list ws) (cyclic_walk (theory_of ws) a);
+  };
 }
 
 pub completes : {ed : Edition} {ws never atom_never output work output' work' : List ℕ} {r : Result (Unit {0}) CallError}
@@ -47,10 +47,11 @@ unfolding complete_answer
 completes {ws = ws} {never = never} {atom_never = atom_never} {r = r} h d = record {
   answer = h.answer;
   done = d;
-  absorbed = h.absorbed;
-  output_after = h.output_after;
-  work_after = h.work_after;
-  demand_3 = λ q a. rw (h.output_after, eq-eqb (call_of r).number 0 q, missing_list ws (bit_at never) (bit_at atom_never)) (missing_exactly (theory_of ws) (bit_at never) (bit_at atom_never) a);
+  leaves = record {
+    output_after = h.output_after;
+    work_after = h.work_after;
+    demand_3 = λ q a. rw (h.output_after, eq-eqb (call_of r).number 0 q, missing_list ws (bit_at never) (bit_at atom_never)) (missing_exactly (theory_of ws) (bit_at never) (bit_at atom_never) a);
+  };
 }
 
 -- a refusal's number is not that of success
@@ -76,19 +77,24 @@ pub work_bad : (ed : Edition) (ws : List ℕ) {w k : ℕ} → w ≢ k → k ≡ 
 work_bad ed ws {w} n e = rw (← e, ne_eqb w _ n)
 
 -- row 12 is the last
-pub absorbed_last : (th : Theory) (p : ℕ) → or_next (absorbed_row th p) accept ≡ absorbed_row th p
-unfolding absorbed_row
-absorbed_last th p = go (filled (absorbed_in th))
+pub absorbed_last : (th : Theory) → or_next (absorbed_row th) accept ≡ absorbed_row th
+unfolding refuse_first
+absorbed_last th = go 0 th.nodes
   where
-    go : (b : Bool) → or_next (cond b (refuse 12 p) accept) accept ≡ cond b (refuse 12 p) accept
-    go true = refl
-    go false = refl
+    go : (i count : ℕ) → or_next (refuse_first 12 (absorbed_node th) i count) accept ≡ refuse_first 12 (absorbed_node th) i count
+    go i zero = refl
+    go i (suc count) = at (absorbed_node th i) (go (suc i) count)
+      where
+        at : (b : Bool) → or_next (refuse_first 12 (absorbed_node th) (suc i) count) accept ≡ refuse_first 12 (absorbed_node th) (suc i) count
+            → or_next (cond b (refuse 12 i) (refuse_first 12 (absorbed_node th) (suc i) count)) accept ≡ cond b (refuse 12 i) (refuse_first 12 (absorbed_node th) (suc i) count)
+        at true ih = refl
+        at false ih = ih
 
 -- nothing but row 12 is left for the pass to refuse
 pub last_row : {ed : Edition} {ws never atom_never output work output' work' : List ℕ} {r : Result (Unit {0}) CallError} → graph_answer ed ws ≡ accept
     → bad_lengths ws (length never) (length atom_never) (length output) ≡ false → bad_work ed ws (length work) ≡ false
-    → Completes ed ws never atom_never output work output' work' r → call_of r ≡ absorbed_row (theory_of ws) (call_of r).place
+    → Completes ed ws never atom_never output work output' work' r → call_of r ≡ absorbed_row (theory_of ws)
 unfolding complete_answer graph_answer first_refusal
 last_row {ed} {ws} {never} {atom_never} {output} {work} {r = r} ok lengths area h =
-    let rest = refuse_if 10 (bad_lengths ws (length never) (length atom_never) (length output)) ∷ refuse_if 11 (bad_work ed ws (length work)) ∷ absorbed_row (theory_of ws) (call_of r).place ∷ [] in
-    h.answer ∙ rows_append (graph_rows ed ws) rest ∙ rw (ok, lengths, area) (absorbed_last (theory_of ws) (call_of r).place)
+    let rest = refuse_if 10 (bad_lengths ws (length never) (length atom_never) (length output)) ∷ refuse_if 11 (bad_work ed ws (length work)) ∷ absorbed_row (theory_of ws) ∷ [] in
+    h.answer ∙ rows_append (graph_rows ed ws) rest ∙ rw (ok, lengths, area) (absorbed_last (theory_of ws))

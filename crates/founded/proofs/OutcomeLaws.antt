@@ -1,35 +1,27 @@
 -- The answers of preparation and pass, and what each leaves: a refusal of the graph (`graph_refused`), of lengths (`lengths_refused`), of the work
 -- area (`work_refused`), of an absorbed node (`absorbed_refused`), and success (`done`).
 use mathlib.Core.Path.{◌≡◌, refl, sym, ◌∙◌}
-use mathlib.Core.Logic.{◌≢◌}
 use mathlib.Core.Bool.{Bool, true, false, cond}
 use mathlib.Core.List.{List, [], ◌∷◌}
 use Prim.Native.Nat.{ℕ, ◌+◌, ◌<◌}
-use native.Mathlib.Omega.{arith}
 use lib.Dec.{eqb}
 use lib.ListN.{length, get_or, replicate}
-use Rattle.theory.specs.Sets.{Set, Mem, filled}
+use Rattle.theory.specs.Sets.{Set}
 use Rattle.theory.specs.Words.{theory_of}
 use Rattle.theory.specs.Accepted.{Edition}
-use Rattle.theory.specs.Cases.{absorbed_in}
-use Rattle.theory.proofs.SetLaws.{clash, is_eq}
-use Rattle.theory.proofs.ConeLaws.{filled_mem}
 use Rattle.mask.specs.Mask.{pack}
 use Rattle.refusals.specs.Answer.{Answer, accept, refuse, refuse_if, or_next, first_refusal}
-use Rattle.refusals.specs.Refusals.{graph_rows, graph_answer, refused_as}
+use Rattle.refusals.specs.Refusals.{graph_rows, graph_answer, absorbed_row, refused_as}
 use Rattle.refusals.specs.declared.Refusal.{Refusal}
 use Rattle.refusals.specs.declared.Refusal.TheVariants.{Edition as EditionRefused, Counts, Size, Node, Producer, Link, Back, Leaf, Head, Entries}
 use Rattle.refusals.proofs.RowLaws.{rows_append}
 use Rattle.preparation.specs.Flags.{Refused}
-use Rattle.founded.specs.declared.CallError.TheVariants as CallError
-use Rattle.founded.specs.declared.CallError.{CallError}
-use Rattle.founded.specs.Answers.{turned_as, absorbed_row, call_answer, output_left, work_left}
+use Rattle.founded.specs.Answers.{call_answer, output_left, work_left}
 use Rattle.founded.proofs.OutputLaws.{flags_pack}
 
 -- what the two contracts have in common: lengths and area are the tests of 10 and 11, and s is the set that success writes
 pub record Answered (ed : Edition) (ws : List ℕ) (lengths area : Bool) (s : Set) (output work output' work' : List ℕ) (a : Answer) : Type 0 where
-  pub answer : a ≡ call_answer ed ws lengths area a.place
-  pub absorbed : a.number ≡ 12 → Mem a.place (absorbed_in (theory_of ws))
+  pub answer : a ≡ call_answer ed ws lengths area
   pub output_after : output' ≡ output_left a.number (get_or ws 1 0) s output
   pub work_after : work' ≡ work_left a.number work
 
@@ -48,19 +40,18 @@ graph_number Entries = (refl, refl)
 
 module _ (ed : Edition) (ws : List ℕ) (s : Set) (output work : List ℕ) where
   -- the rows after the graph's
-  late : (lengths area : Bool) (p : ℕ) → Answer
-  late lengths area p = or_next (refuse_if 10 lengths) (or_next (refuse_if 11 area) (or_next (absorbed_row (theory_of ws) p) accept))
+  late : (lengths area : Bool) → Answer
+  late lengths area = or_next (refuse_if 10 lengths) (or_next (refuse_if 11 area) (or_next (absorbed_row (theory_of ws)) accept))
 
-  rows : (lengths area : Bool) (p : ℕ) → call_answer ed ws lengths area p ≡ or_next (graph_answer ed ws) (late lengths area p)
+  rows : (lengths area : Bool) → call_answer ed ws lengths area ≡ or_next (graph_answer ed ws) (late lengths area)
   unfolding graph_answer first_refusal late
-  rows lengths area p = rows_append (graph_rows ed ws) (refuse_if 10 lengths ∷ refuse_if 11 area ∷ absorbed_row (theory_of ws) p ∷ [])
+  rows lengths area = rows_append (graph_rows ed ws) (refuse_if 10 lengths ∷ refuse_if 11 area ∷ absorbed_row (theory_of ws) ∷ [])
 
   -- a refusal 1 to 11 leaves all as it was
-  kept : {lengths area : Bool} (a : Answer) → a ≡ call_answer ed ws lengths area a.place → (eqb a.number 0 ≡ false) × (eqb a.number 12 ≡ false)
+  kept : {lengths area : Bool} (a : Answer) → a ≡ call_answer ed ws lengths area → (eqb a.number 0 ≡ false) × (eqb a.number 12 ≡ false)
       → Answered ed ws lengths area s output work output work a
   kept a e n = record {
     answer = e;
-    absorbed = λ q. clash (is_eq a.number 12 q) n.1;
     output_after = rw n.0;
     work_after = rw (n.0, n.1);
   }
@@ -68,38 +59,36 @@ module _ (ed : Edition) (ws : List ℕ) (s : Set) (output work : List ℕ) where
   pub graph_refused : {lengths area : Bool} (e : Refusal) → refused_as e ≡ graph_answer ed ws → Answered ed ws lengths area s output work output work (refused_as e)
   graph_refused {lengths} {area} e q =
       let k = graph_number e in
-      kept (refused_as e) (sym (rows lengths area (refused_as e).place ∙ rw (← q, k.0))) k
+      kept (refused_as e) (sym (rows lengths area ∙ rw (← q, k.0))) k
 
   module _ (ok : graph_answer ed ws ≡ accept) where
-    later : (lengths area : Bool) (p : ℕ) → call_answer ed ws lengths area p ≡ late lengths area p
-    later lengths area p = rows lengths area p ∙ rw ok
+    later : (lengths area : Bool) → call_answer ed ws lengths area ≡ late lengths area
+    later lengths area = rows lengths area ∙ rw ok
 
     pub lengths_refused : {lengths area : Bool} → lengths ≡ true → Answered ed ws lengths area s output work output work (refuse 10 0)
     unfolding late
-    lengths_refused {lengths} {area} l = kept (refuse 10 0) (sym (later lengths area 0 ∙ rw l)) (refl, refl)
+    lengths_refused {lengths} {area} l = kept (refuse 10 0) (sym (later lengths area ∙ rw l)) (refl, refl)
 
     pub work_refused : {lengths area : Bool} → lengths ≡ false → area ≡ true → Answered ed ws lengths area s output work output work (refuse 11 0)
     unfolding late
-    work_refused {lengths} {area} l r = kept (refuse 11 0) (sym (later lengths area 0 ∙ rw (l, r))) (refl, refl)
+    work_refused {lengths} {area} l r = kept (refuse 11 0) (sym (later lengths area ∙ rw (l, r))) (refl, refl)
 
     module _ {lengths area : Bool} (l : lengths ≡ false) (r : area ≡ false) (w : List ℕ) {work' : List ℕ} (z : work' ≡ replicate (length w) 0) where
       pub absorbed_refused : {n : ℕ} → Refused ws work w n → Answered ed ws lengths area s output work output work' (refuse 12 n)
-      unfolding late absorbed_row
+      unfolding late
       absorbed_refused {n} h = record {
-        answer = sym (later lengths area n ∙ rw (l, r, filled_mem h.place));
-        absorbed = λ q. h.place;
+        answer = sym (later lengths area ∙ rw (l, r, h.row));
         output_after = refl;
         work_after = z ∙ rw h.size;
       }
 
       -- the flags of s from `from` on, packed
-      pub done : (from : ℕ) {n : ℕ} {output' : List ℕ} → n ≡ get_or ws 1 0 → length w ≡ length work → absorbed_in (theory_of ws) ≡ []
+      pub done : (from : ℕ) {n : ℕ} {output' : List ℕ} → n ≡ get_or ws 1 0 → length w ≡ length work → absorbed_row (theory_of ws) ≡ accept
           → ((a : ℕ) → a < n → get_or w (from + a) 0 ≡ cond (s a) 1 0) → output' ≡ pack n (λ a. eqb (get_or w (from + a) 0) 1)
           → Answered ed ws lengths area s output work output' work' accept
-      unfolding late absorbed_row filled
+      unfolding late
       done from e n m f o = record {
-        answer = sym (later lengths area 0 ∙ rw (l, r, m));
-        absorbed = λ q. absurd (omega arith);
+        answer = sym (later lengths area ∙ rw (l, r, m));
         output_after = o ∙ flags_pack from w s e f;
         work_after = z ∙ rw n;
       }

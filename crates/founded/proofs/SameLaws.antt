@@ -19,7 +19,7 @@ use Rattle.founded.specs.Answers.{call_of, Completes}
 
 list_words : {ed : Edition} {ws never atom_never output work output' work' : List ℕ} {r : Result (Unit {0}) CallError} → Completes ed ws never atom_never output work output' work' r → (call_of r).number ≡ 0
     → output' ≡ pack (get_or ws 1 0) (missing (theory_of ws) (bit_at never) (bit_at atom_never))
-list_words {r = r} h e = rw (h.output_after, eq-eqb (call_of r).number 0 e)
+list_words {r = r} h e = rw (h.leaves.output_after, eq-eqb (call_of r).number 0 e)
 
 pub same_list : {ed : Edition} {ws never other atom_never atom_other out₁ out₂ work₁ work₂ out₁' out₂' work₁' work₂' : List ℕ} {r s : Result (Unit {0}) CallError} → graph_answer ed ws ≡ accept
     → SameCuts (theory_of ws) (bit_at never) (bit_at other) (bit_at atom_never) (bit_at atom_other)

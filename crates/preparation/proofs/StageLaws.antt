@@ -1,16 +1,14 @@
--- From stage to stage: the body cone says whether a node of it is absorbed (document 01, refusal 12), and what a stage leaves is what the next one needs.
-use mathlib.Core.Path.{◌≡◌, refl, ap, ◌∙◌}
-use mathlib.Core.List.Memᴰ
-use mathlib.Core.List.{List, [], ◌∷◌}
-use Prim.Native.Nat.{ℕ, ◌<◌}
+-- From stage to stage: what a stage leaves is what the next one needs; and where row 12 refuses, the stage ends with its place.
+use mathlib.Core.Path.{◌≡◌, refl, ◌∙◌}
+use mathlib.Core.List.{List}
+use Prim.Native.Nat.{ℕ}
 use native.Mathlib.Omega.{arith}
 use lib.ListN.{length}
-use Rattle.theory.specs.Sets.{Set, Mem}
-use Rattle.theory.specs.Theory.{Theory, absorbed}
+use Rattle.theory.specs.Sets.{Set}
 use Rattle.theory.specs.Words.{theory_of}
 use Rattle.theory.specs.Edges.{body_cone}
-use Rattle.theory.specs.Cases.{absorbed_in}
-use Rattle.theory.proofs.SetLaws.{and_intro, and_left, and_right}
+use Rattle.refusals.specs.Answer.{accept, refuse}
+use Rattle.refusals.specs.Refusals.{absorbed_row}
 use Rattle.area.specs.declared.Bases.{Bases}
 use Rattle.area.specs.Layout.{Based}
 use Rattle.area.proofs.PartLaws.{frame_less}
@@ -18,26 +16,10 @@ use Rattle.adjacency.proofs.TableLaws.{kept}
 use Rattle.rows.proofs.VertexLaws.{tables_same}
 use Rattle.cones.specs.Cones as cones
 use Rattle.cones.specs.declared.Absorbed.{Absorbed}
-use Rattle.cones.proofs.FactLaws.{members_mem}
-use Rattle.cones.proofs.RefuseLaws.{is_absorbed}
 use Rattle.std.specs.Prelude.{Result, Ok, Err}
 use Rattle.std.specs.Result.{IsErrAnd}
 use Rattle.preparation.specs.Flags.{Marked, Listed}
 use Rattle.preparation.specs.Stages.{Rowed, Onward, Marking, Staged, Passing}
-
-empty : (l : List ℕ) → ((n : ℕ) → Mem n l → ⊥) → l ≡ []
-empty [] h = refl
-empty (x ∷ l) h = absurd (h x (Memᴰ.head refl))
-
-module _ (th : Theory) (b : Bases) (w : List ℕ) where
-  pub cone_refused : (e : Absorbed) → cones.body_coned th b w (Err e) → Mem e.node (absorbed_in th)
-  unfolding cones.body_coned absorbed_in absorbed
-  cone_refused e q = (members_mem th.nodes _ e.node).1 (q.0, and_intro q.1 (ap absorbed q.2))
-
-  pub cone_found : (x : ℕ) → cones.body_coned th b w (Ok x) → cones.Found th (body_cone th) b w x × (absorbed_in th ≡ [])
-  unfolding cones.body_coned absorbed_in
-  cone_found x q =
-      (q.0, empty (absorbed_in th) (λ n m. let i = (members_mem th.nodes _ n).0 m in q.1 n (and_left (body_cone th n) _ i.1) (is_absorbed (th.kind n) (and_right (body_cone th n) _ i.1))))
 
 module _ (ws : List ℕ) (b : Bases) (w₀ : List ℕ) where
   pub onward : {w₁ w₂ : List ℕ} {x : ℕ} → Based ws (length w₀) b → Rowed ws b w₀ w₁ → cones.Kept b w₁ w₂ → cones.Found (theory_of ws) (body_cone (theory_of ws)) b w₂ x → Onward ws b w₂
@@ -49,34 +31,30 @@ module _ (ws : List ℕ) (b : Bases) (w₀ : List ℕ) where
   }
 
   -- `?` passes the refusal on as it is
-  pub staged_refused : (w : List ℕ) (e : Absorbed) (r : Result (Unit {0}) Absorbed) → IsErrAnd r (λ x. x ≡ e) → length w ≡ length w₀ → Mem e.node (absorbed_in (theory_of ws)) → Staged ws b w₀ w r
+  pub staged_refused : (w : List ℕ) (e : Absorbed) (r : Result (Unit {0}) Absorbed) → IsErrAnd r (λ x. x ≡ e) → length w ≡ length w₀ → absorbed_row (theory_of ws) ≡ refuse 12 e.node → Staged ws b w₀ w r
   unfolding Staged
   staged_refused w e (Ok u) h s m = absurd h
-  staged_refused w e (Err x) h s m = rw h (record { size = s; place = m })
+  staged_refused w e (Err x) h s m = rw h (record { size = s; row = m })
 
-  pub staged_done : {w₂ : List ℕ} (w : List ℕ) → length w₂ ≡ length w₀ → absorbed_in (theory_of ws) ≡ [] → Marking ws b w₂ w → Staged ws b w₀ w (Ok (tt {0}))
+  pub staged_done : {w₂ : List ℕ} (w : List ℕ) → length w₂ ≡ length w₀ → absorbed_row (theory_of ws) ≡ accept → Marking ws b w₂ w → Staged ws b w₀ w (Ok (tt {0}))
   unfolding Staged
-  staged_done w s e m = record { marking = record { size = m.size ∙ s; tables = m.tables; flags = m.flags }; none = e }
+  staged_done w s e m = record { marking = record { size = m.size ∙ s; tables = m.tables; flags = m.flags }; row = e }
 
   module _ (w : List ℕ) where
     pub marked_staged : (r : Result (Unit {0}) Absorbed) → Staged ws b w₀ w r → Marked ws b w₀ w r
     unfolding Staged Marked
-    marked_staged (Ok u) s = record { size = s.marking.size; flags = s.marking.flags; none = s.none }
+    marked_staged (Ok u) s = record { size = s.marking.size; flags = s.marking.flags; row = s.row }
     marked_staged (Err e) s = s
 
-    pub ready_pass : (u : Unit {0}) → Staged ws b w₀ w (Ok u) → Marking ws b w w × (length w ≡ length w₀) × (absorbed_in (theory_of ws) ≡ [])
+    pub ready_pass : (u : Unit {0}) → Staged ws b w₀ w (Ok u) → Marking ws b w w × (length w ≡ length w₀) × (absorbed_row (theory_of ws) ≡ accept)
     unfolding Staged
-    ready_pass u q = (record { size = refl; tables = q.marking.tables; flags = q.marking.flags }, q.marking.size, q.none)
+    ready_pass u q = (record { size = refl; tables = q.marking.tables; flags = q.marking.flags }, q.marking.size, q.row)
 
     pub listed_refused : (never atom_never : Set) (e : Absorbed) (r : Result (Unit {0}) Absorbed) → IsErrAnd r (λ x. x ≡ e) → Staged ws b w₀ w (Err e) → Listed ws never atom_never b w₀ w r
     unfolding Staged Listed
     listed_refused never atom_never e (Ok u) h s = absurd h
     listed_refused never atom_never e (Err x) h s = rw h s
 
-  pub listed_done : (never atom_never : Set) {w₂ : List ℕ} (w : List ℕ) → length w₂ ≡ length w₀ → absorbed_in (theory_of ws) ≡ [] → Passing ws never atom_never b w₂ w → Listed ws never atom_never b w₀ w (Ok (tt {0}))
+  pub listed_done : (never atom_never : Set) {w₂ : List ℕ} (w : List ℕ) → length w₂ ≡ length w₀ → absorbed_row (theory_of ws) ≡ accept → Passing ws never atom_never b w₂ w → Listed ws never atom_never b w₀ w (Ok (tt {0}))
   unfolding Listed
-  listed_done never atom_never w s e p = record { size = p.size ∙ s; none = e; flags = p.flags }
-
-pub absorbed_low : (th : Theory) (n : ℕ) → Mem n (absorbed_in th) → n < th.nodes
-unfolding absorbed_in
-absorbed_low th n m = ((members_mem th.nodes _ n).0 m).0
+  listed_done never atom_never w s e p = record { size = p.size ∙ s; row = e; flags = p.flags }

@@ -1,31 +1,32 @@
 -- What preparation and the pass leave in the work area: a flag for each cyclic atom, and a flag for each missing atom.
-use Rattle.std.specs.Prelude.{◌≡◌, cond, List, [], ℕ, ◌+◌, ◌<◌, length, get_or, Result, Ok, Err}
-use Rattle.theory.specs.Sets.{Set, Mem}
+use Rattle.std.specs.Prelude.{◌≡◌, cond, List, ℕ, ◌+◌, ◌<◌, length, get_or, Result, Ok, Err}
+use Rattle.theory.specs.Sets.{Set}
 use Rattle.theory.specs.Words.{theory_of}
 use Rattle.theory.specs.Founded.{cyclic, missing}
-use Rattle.theory.specs.Cases.{absorbed_in}
+use Rattle.refusals.specs.Answer.{accept, refuse}
+use Rattle.refusals.specs.Refusals.{absorbed_row}
 use Rattle.area.specs.declared.Bases.{Bases}
 use Rattle.cones.specs.declared.Absorbed.{Absorbed}
 
--- the cyclic atoms are flagged, and no node of the body cone is absorbed
+-- the cyclic atoms are flagged, and row 12 accepts
 pub record Prepared (ws : List ℕ) (b : Bases) (w₀ w : List ℕ) : Type 0 where
   pub size : length w ≡ length w₀
   pub flags : (a : ℕ) → a < b.atoms → get_or w (b.cyclic_atoms + a) 0 ≡ cond (cyclic (theory_of ws) a) 1 0
-  pub none : absorbed_in (theory_of ws) ≡ []
+  pub row : absorbed_row (theory_of ws) ≡ accept
 
--- or one is
+-- or it refuses node n
 pub record Refused (ws : List ℕ) (w₀ w : List ℕ) (n : ℕ) : Type 0 where
   pub size : length w ≡ length w₀
-  pub place : Mem n (absorbed_in (theory_of ws))
+  pub row : absorbed_row (theory_of ws) ≡ refuse 12 n
 
 unfoldable pub Marked : List ℕ → Bases → List ℕ → List ℕ → Result (Unit {0}) Absorbed → Type 0
 Marked ws b w₀ w (Ok u) = Prepared ws b w₀ w
 Marked ws b w₀ w (Err e) = Refused ws w₀ w e.node
 
--- the missing atoms are flagged where their counts were, and no node of the body cone is absorbed
+-- the missing atoms are flagged where their counts were, and row 12 accepts
 pub record Passed (ws : List ℕ) (never atom_never : Set) (b : Bases) (w₀ w : List ℕ) : Type 0 where
   pub size : length w ≡ length w₀
-  pub none : absorbed_in (theory_of ws) ≡ []
+  pub row : absorbed_row (theory_of ws) ≡ accept
   pub flags : (a : ℕ) → a < b.atoms → get_or w (b.dependencies + a) 0 ≡ cond (missing (theory_of ws) never atom_never a) 1 0
 
 unfoldable pub Listed : List ℕ → (never atom_never : Set) → Bases → List ℕ → List ℕ → Result (Unit {0}) Absorbed → Type 0

@@ -1,10 +1,11 @@
 -- What the words hold from stage to stage: the row tables, the body cone, the cyclic atoms, and after the pass the counts.
-use Rattle.std.specs.Prelude.{◌≡◌, cond, List, [], ℕ, ◌+◌, ◌<◌, length, Result, Ok, Err}
+use Rattle.std.specs.Prelude.{◌≡◌, cond, List, ℕ, ◌+◌, ◌<◌, length, Result, Ok, Err}
 use Rattle.theory.specs.Sets.{Set}
 use Rattle.theory.specs.Words.{theory_of}
 use Rattle.theory.specs.Edges.{body_cone}
 use Rattle.theory.specs.Founded.{cyclic, missing}
-use Rattle.theory.specs.Cases.{absorbed_in}
+use Rattle.refusals.specs.Answer.{accept}
+use Rattle.refusals.specs.Refusals.{absorbed_row}
 use Rattle.area.specs.declared.Bases.{Bases}
 use Rattle.area.specs.Layout.{Based}
 use Rattle.area.specs.Views.{mark_in, count_at, flag_at}
@@ -23,7 +24,7 @@ pub record Rowed (ws : List ℕ) (b : Bases) (w₀ w : List ℕ) : Type 0 where
   pub tables : Tables (theory_of ws) b w
   pub by_head : Headed ws b w
 
--- the nodes of the body cone are marked, and none of them is absorbed
+-- the nodes of the body cone are marked
 pub record Onward (ws : List ℕ) (b : Bases) (w : List ℕ) : Type 0 where
   pub based : Based ws (length w) b
   pub tables : Tables (theory_of ws) b w
@@ -38,7 +39,7 @@ pub record Marking (ws : List ℕ) (b : Bases) (w₀ w : List ℕ) : Type 0 wher
 
 pub record Ready (ws : List ℕ) (b : Bases) (w₀ w : List ℕ) : Type 0 where
   pub marking : Marking ws b w₀ w
-  pub none : absorbed_in (theory_of ws) ≡ []
+  pub row : absorbed_row (theory_of ws) ≡ accept
 
 unfoldable pub Staged : List ℕ → Bases → List ℕ → List ℕ → Result (Unit {0}) Absorbed → Type 0
 Staged ws b w₀ w (Ok u) = Ready ws b w₀ w

@@ -10,7 +10,7 @@ use Rattle.refusals.specs.Answer.{Answer, refuse, refuse_if, or_next, refuse_fir
 use Rattle.refusals.specs.Refusals.{bad_edition, bad_counts, bad_size, bad_node, bad_producer, bad_link, leaves_back, heads_back, bad_leaves, bad_heads, bad_entries, graph_rows, graph_answer}
 
 module _ {lim : ℕ} (some : 0 < lim) where
-  first_place : (number : ℕ) (bad : ℕ → Bool) (i count : ℕ) → i + count ≤ lim → (refuse_first number bad i count).place < lim
+  pub first_place : (number : ℕ) (bad : ℕ → Bool) (i count : ℕ) → i + count ≤ lim → (refuse_first number bad i count).place < lim
   unfolding refuse_first
   first_place number bad i zero h = some
   first_place number bad i (suc count) h = go (bad i) (first_place number bad (suc i) count (omega arith))

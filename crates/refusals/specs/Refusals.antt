@@ -1,8 +1,10 @@
--- Refusals 1 to 9 and 14 (document 01, "Where a call is turned away", and document 02, request 5): a named test for each row, and the table in its order.
+-- Refusals 1 to 9 and 14 (document 01, "Where a call is turned away", and document 02, request 5): a named test for each row, and the table in its order. And the row of 12
+-- (document 02, request 3), which the table of a call that prepares has last.
 use Rattle.std.specs.Prelude.{Bool, not, ◌&&◌, ◌||◌, cond, List, [], ◌∷◌, ℕ, ◌+◌, eqb, ltb, leb, length, get_or, Result, Ok, Err}
 use Rattle.theory.specs.Sets.{any}
-use Rattle.theory.specs.Theory.{joins}
+use Rattle.theory.specs.Theory.{Theory, joins}
 use Rattle.theory.specs.Words.{kind_of, node_at, producer_at, next_of, chain, theory_of}
+use Rattle.theory.specs.Edges.{absorbed_node}
 use Rattle.theory.specs.Links.{comes_back}
 use Rattle.theory.specs.Accepted.{Edition, size_of, leaf_entries, head_entries}
 use Rattle.graph.specs.Layout.{leaf_link, head_link}
@@ -93,6 +95,10 @@ graph_rows ed ws =
 
 unfoldable pub graph_answer : Edition → List ℕ → Answer
 graph_answer ed ws = first_refusal (graph_rows ed ws)
+
+-- 12: an absorbed node of the body cone
+abbrev pub absorbed_row : Theory → Answer
+absorbed_row th = refuse_first 12 (absorbed_node th) 0 th.nodes
 
 -- number and place of each case of `Refusal`
 abbrev pub refused_as : Refusal → Answer

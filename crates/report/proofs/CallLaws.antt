@@ -10,21 +10,20 @@ use lib.ListN.{length, get_or, take, drop, length-take}
 use lib.Seq.{length-take-le}
 use borrow.Author.Tests.{eq-eqb, ne_eqb, eqb-true, eqb-false, not-false}
 use Rattle.std.specs.Prelude.{Result, Ok, Err}
-use Rattle.theory.specs.Sets.{Mem, members}
+use Rattle.theory.specs.Sets.{members}
 use Rattle.theory.specs.Words.{theory_of, bit_at}
 use Rattle.theory.specs.Accepted.{edition1}
 use Rattle.theory.specs.Founded.{has_cycle, missing}
-use Rattle.theory.specs.Cases.{absorbed_in}
 use Rattle.theory.proofs.SetLaws.{bool_cases}
 use Rattle.mask.specs.Mask.{words_of, pack}
 use Rattle.refusals.specs.Answer.{Answer, accept, refuse, or_next, first_refusal}
-use Rattle.refusals.specs.Refusals.{graph_rows, graph_answer, refused_as}
+use Rattle.refusals.specs.Refusals.{graph_rows, graph_answer, absorbed_row, refused_as}
 use Rattle.refusals.specs.declared.Refusal.{Refusal}
 use Rattle.refusals.proofs.AcceptedLaws.{accepted}
-use Rattle.founded.specs.Answers.{absorbed_row, bad_lengths, call_of, Completes}
+use Rattle.founded.specs.Answers.{bad_lengths, call_of, Completes}
 use Rattle.founded.specs.declared.CallError.{CallError}
 use Rattle.founded.specs.declared.CallError.TheVariants.{Refused, Lengths}
-use Rattle.founded.proofs.OutcomeLaws.{graph_number}
+use Rattle.refusals.proofs.RefusedLaws.{number_some}
 use Rattle.founded.proofs.OutputLaws.{missing_list}
 use Rattle.founded.proofs.CallLaws.{absorbed_last, last_row, work_fits}
 use Rattle.input.specs.Bytes.{words}
@@ -36,7 +35,7 @@ use Rattle.report.specs.Answered.{Refuses, Ready, Answered}
 
 -- nothing but row 12 is left for the pass to refuse
 pub pass_row : {graph never atom_never output work output' work' : List ℕ} {r : Result (Unit {0}) CallError} → Ready graph never atom_never output → length work ≡ 32768
-    → Completes edition1 graph never atom_never output work output' work' r → absorbed_row (theory_of graph) (call_of r).place ≡ call_of r
+    → Completes edition1 graph never atom_never output work output' work' r → absorbed_row (theory_of graph) ≡ call_of r
 unfolding bad_lengths
 pass_row {graph} {never} {atom_never} {output} {work} ready hw done =
     let fit : bad_lengths graph (length never) (length atom_never) (length output) ≡ false =
@@ -44,20 +43,19 @@ pass_row {graph} {never} {atom_never} {output} {work} ready hw done =
     sym (last_row ready.accepted fit (work_fits edition1 graph (length work) hw) done)
 
 -- rows 1 to 10 accept, and so the answer is row 12's
-pub answer_row : (graph masks : List ℕ) (p : ℕ) → graph_answer edition1 graph ≡ accept → bad_masks graph masks ≡ false → answer graph masks p ≡ absorbed_row (theory_of graph) p
+pub answer_row : (graph masks : List ℕ) → graph_answer edition1 graph ≡ accept → bad_masks graph masks ≡ false → answer graph masks ≡ absorbed_row (theory_of graph)
 unfolding answer first_refusal
-answer_row graph masks p e h = rw (e, h) (absorbed_last (theory_of graph) p)
+answer_row graph masks e h = rw (e, h) (absorbed_last (theory_of graph))
 
 -- ---- what is known before the text is written
 
-pub answered_err : {answers : ℕ → Answer} {graph never atom_never output : List ℕ} {e : CallError} {r : Result Bool CallError} (p : ℕ) → r ≡ Err e → Refuses (answers p) e
-    → ((answers p).number ≡ 12 → Mem p (absorbed_in (theory_of graph))) → Answered answers graph never atom_never output r
-answered_err p k h m = rw k record { place = p; says = record { ok = tt; err = h }; absorbed = m; cycle = tt; listed = tt }
+pub answered_err : {a : Answer} {graph never atom_never output : List ℕ} {e : CallError} {r : Result Bool CallError} → r ≡ Err e → Refuses a e → Answered a graph never atom_never output r
+answered_err k h = rw k record { says = record { ok = tt; err = h }; cycle = tt; listed = tt }
 
--- the same answers, the same masks and the same output
-pub answered_same : {answers others : ℕ → Answer} {graph never atom_never output never' atom_never' output' : List ℕ} {r : Result Bool CallError} → ((p : ℕ) → answers p ≡ others p)
-    → never' ≡ never → atom_never' ≡ atom_never → output ≡ output' → Answered others graph never' atom_never' output' r → Answered answers graph never atom_never output r
-answered_same e en ea eo t = rw (← en, ← ea, eo) record { place = t.place; says = rw (e t.place) t.says; absorbed = rw (e t.place) t.absorbed; cycle = t.cycle; listed = t.listed }
+-- the same answer, the same masks and the same output
+pub answered_same : {a b : Answer} {graph never atom_never output never' atom_never' output' : List ℕ} {r : Result Bool CallError} → a ≡ b
+    → never' ≡ never → atom_never' ≡ atom_never → output ≡ output' → Answered b graph never' atom_never' output' r → Answered a graph never atom_never output r
+answered_same e en ea eo t = rw (← en, ← ea, eo, e) t
 
 -- ---- the text
 
@@ -65,9 +63,9 @@ answered_same e en ea eo t = rw (← en, ← ea, eo) record { place = t.place; s
 append_within : {old text new : List ℕ} {r : ℕ} → Appended old 0 text new r → r ≤ length new
 append_within {text = text} {new = new} {r = r} a = omega (arith, a.end, sym (length-take r new) ∙ ap length a.text_there)
 
-pub print_both : {answers : ℕ → Answer} {graph never atom_never output both old new text : List ℕ} {r : ℕ} {yes : Bool} → Answered answers graph never atom_never output (Ok yes) → text ≡ both
-    → Appended old 0 text new r → Printed answers both (theory_of graph) old new r
-print_both a h t = record { place = a.place; within = append_within t; exact = sym (length-take-le _ _ (append_within t)); text = t.text_there ∙ rw (a.says.ok, h); behind = t.behind; absorbed = a.absorbed }
+pub print_both : {a : Answer} {graph never atom_never output both old new text : List ℕ} {r : ℕ} {yes : Bool} → Answered a graph never atom_never output (Ok yes) → text ≡ both
+    → Appended old 0 text new r → Printed a both old new r
+print_both a h t = record { within = append_within t; exact = sym (length-take-le _ _ (append_within t)); text = t.text_there ∙ rw (a.says.ok, h); behind = t.behind }
 
 pub lines_same : (graph never atom_never output : List ℕ) (cycle : Bool) (atoms : ℕ) → cycle ≡ has_cycle (theory_of graph) → atoms ≡ get_or graph 1 0
     → output ≡ pack (get_or graph 1 0) (missing (theory_of graph) (bit_at never) (bit_at atom_never))
@@ -99,38 +97,34 @@ unfolding graph_answer
 graph_accepts graph e = accepts (graph_rows edition1 graph) e
 
 -- nothing refuses, and so the graph check does not
-pub answer_accepts : (graph masks : List ℕ) (p : ℕ) → (answer graph masks p).number ≡ 0 → graph_answer edition1 graph ≡ accept
+pub answer_accepts : (graph masks : List ℕ) → (answer graph masks).number ≡ 0 → graph_answer edition1 graph ≡ accept
 unfolding answer first_refusal
-answer_accepts graph masks p e = go (bool_cases (eqb (graph_answer edition1 graph).number 0))
+answer_accepts graph masks e = go (bool_cases (eqb (graph_answer edition1 graph).number 0))
   where
     go : (eqb (graph_answer edition1 graph).number 0 ≡ true) ⊎ (eqb (graph_answer edition1 graph).number 0 ≡ false) → graph_answer edition1 graph ≡ accept
     go (inl t) = graph_accepts graph (eqb-true _ 0 t)
     go (inr f) = absurd (eqb-false _ 0 f (rw f at e))
 
-pub answer_graph : (graph masks : List ℕ) (p : ℕ) (a : Answer) → graph_answer edition1 graph ≡ a → (a.number ≡ 0 → ⊥) → answer graph masks p ≡ a
+pub answer_graph : (graph masks : List ℕ) (a : Answer) → graph_answer edition1 graph ≡ a → (a.number ≡ 0 → ⊥) → answer graph masks ≡ a
 unfolding answer first_refusal
-answer_graph graph masks p a e h = rw (e, ne_eqb a.number 0 h)
+answer_graph graph masks a e h = rw (e, ne_eqb a.number 0 h)
 
-pub answer_masks : (graph masks : List ℕ) (p : ℕ) → graph_answer edition1 graph ≡ accept → bad_masks graph masks ≡ true → answer graph masks p ≡ refuse 10 0
+pub answer_masks : (graph masks : List ℕ) → graph_answer edition1 graph ≡ accept → bad_masks graph masks ≡ true → answer graph masks ≡ refuse 10 0
 unfolding answer first_refusal
-answer_masks graph masks p e h = rw (e, h)
+answer_masks graph masks e h = rw (e, h)
 
--- the graph check's refusal is the program's; it is not 12
+-- the graph check's refusal is the program's
 pub answered_graph : {graph never atom_never output : List ℕ} (masks : List ℕ) (e : Refusal) {r : Result Bool CallError} → r ≡ Err (Refused e) → refused_as e ≡ graph_answer edition1 graph
     → (graph_answer edition1 graph).place < 65536 → Answered (answer graph masks) graph never atom_never output r
 answered_graph {graph} masks e k q low =
-    let n = graph_number e in
-    let same = answer_graph graph masks 0 (refused_as e) (sym q) (eqb-false _ 0 n.0) in
-    answered_err 0 k record { same = same; place_low = rw q low } (λ z. absurd (eqb-false _ 12 n.1 (ap (λ (a : Answer). a.number) (sym same) ∙ z)))
+    answered_err k record { same = answer_graph graph masks (refused_as e) (sym q) (eqb-false _ 0 (number_some e)); place_low = rw q low }
 
 pub answered_masks : {graph never atom_never output : List ℕ} (masks : List ℕ) → graph_answer edition1 graph ≡ accept → bad_masks graph masks ≡ true
     → Answered (answer graph masks) graph never atom_never output (Err Lengths)
-answered_masks {graph} masks e h =
-    let same = answer_masks graph masks 0 e h in
-    answered_err 0 refl record { same = same; place_low = omega arith } (λ z. absurd (omega (arith, ap (λ (a : Answer). a.number) same, z)))
+answered_masks {graph} masks e h = answered_err refl record { same = answer_masks graph masks e h; place_low = omega arith }
 
 pub answered_few : {graph never atom_never output : List ℕ} {yes : Bool} (masks : List ℕ) → Answered (answer graph masks) graph never atom_never output (Ok yes) → Few graph
-answered_few {graph} masks a = accepted_few graph (answer_accepts graph masks a.place a.says.ok)
+answered_few {graph} masks a = accepted_few graph (answer_accepts graph masks a.says.ok)
 
 -- ---- the masks
 

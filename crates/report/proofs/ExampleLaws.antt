@@ -12,11 +12,10 @@ use Rattle.theory.specs.Truth.{holds, truth_in, truth, fires}
 use Rattle.theory.specs.Founded.{has_cycle, cyclic, atom_truth, produced, founded_step, founded, missing}
 use Rattle.theory.specs.Words.{kind_of, chain_in, chain, theory_of, bit_at}
 use Rattle.theory.specs.Links.{after, link_after, comes_back}
-use Rattle.theory.specs.Cases.{absorbed_in, c1, c2, alone}
+use Rattle.theory.specs.Cases.{c1, c2, alone}
 use Rattle.graph.specs.Kinds.{takes_operand}
 use Rattle.refusals.specs.Answer.{refuse_first, first_refusal}
 use Rattle.refusals.specs.Refusals.{bad_edition, bad_counts, bad_entries, bad_operand, bad_first, bad_record, bad_body, bad_next, bad_size, graph_rows, graph_answer}
-use Rattle.founded.specs.Answers.{absorbed_row}
 use Rattle.input.specs.Bytes.{little_endian, tabulate}
 use Rattle.input.specs.Input.{graph_size, graph_of, masks_of}
 use Rattle.text.specs.Text.{digits_in, decimal, spaced}
@@ -33,20 +32,20 @@ no_cuts = replicate 8 0
 
 pub examples :
     -- C2 without cuts: loops yes, missing 2 0 1
-    (report_text (in_bytes c2 ++ no_cuts ++ no_cuts) 0 ≡ 108 ∷ 111 ∷ 111 ∷ 112 ∷ 115 ∷ 32 ∷ 121 ∷ 101 ∷ 115 ∷ 10 ∷ 109 ∷ 105 ∷ 115 ∷ 115 ∷ 105 ∷ 110 ∷ 103 ∷ 32 ∷ 50 ∷ 32 ∷ 48 ∷ 32 ∷ 49 ∷ 10 ∷ [])
+    (report_text ((in_bytes c2 ++ no_cuts ++ no_cuts)) ≡ 108 ∷ 111 ∷ 111 ∷ 112 ∷ 115 ∷ 32 ∷ 121 ∷ 101 ∷ 115 ∷ 10 ∷ 109 ∷ 105 ∷ 115 ∷ 115 ∷ 105 ∷ 110 ∷ 103 ∷ 32 ∷ 50 ∷ 32 ∷ 48 ∷ 32 ∷ 49 ∷ 10 ∷ [])
     -- C1: loops no, missing 0
-    × (report_text (in_bytes c1) 0 ≡ 108 ∷ 111 ∷ 111 ∷ 112 ∷ 115 ∷ 32 ∷ 110 ∷ 111 ∷ 10 ∷ 109 ∷ 105 ∷ 115 ∷ 115 ∷ 105 ∷ 110 ∷ 103 ∷ 32 ∷ 48 ∷ 10 ∷ [])
+    × (report_text (in_bytes c1) ≡ 108 ∷ 111 ∷ 111 ∷ 112 ∷ 115 ∷ 32 ∷ 110 ∷ 111 ∷ 10 ∷ 109 ∷ 105 ∷ 115 ∷ 115 ∷ 105 ∷ 110 ∷ 103 ∷ 32 ∷ 48 ∷ 10 ∷ [])
     -- C1 and one more byte: refused 10 0
-    × (report_text (in_bytes c1 ++ (0 ∷ [])) 0 ≡ 114 ∷ 101 ∷ 102 ∷ 117 ∷ 115 ∷ 101 ∷ 100 ∷ 32 ∷ 49 ∷ 48 ∷ 32 ∷ 48 ∷ 10 ∷ [])
+    × (report_text ((in_bytes c1 ++ (0 ∷ []))) ≡ 114 ∷ 101 ∷ 102 ∷ 117 ∷ 115 ∷ 101 ∷ 100 ∷ 32 ∷ 49 ∷ 48 ∷ 32 ∷ 48 ∷ 10 ∷ [])
     -- C12 without cuts: refused 12 0
-    × (report_text (in_bytes (alone 7) ++ no_cuts ++ no_cuts) 0 ≡ 114 ∷ 101 ∷ 102 ∷ 117 ∷ 115 ∷ 101 ∷ 100 ∷ 32 ∷ 49 ∷ 50 ∷ 32 ∷ 48 ∷ 10 ∷ [])
+    × (report_text ((in_bytes (alone 7) ++ no_cuts ++ no_cuts)) ≡ 114 ∷ 101 ∷ 102 ∷ 117 ∷ 115 ∷ 101 ∷ 100 ∷ 32 ∷ 49 ∷ 50 ∷ 32 ∷ 48 ∷ 10 ∷ [])
     -- nothing: refused 1 0
-    × (report_text [] 0 ≡ 114 ∷ 101 ∷ 102 ∷ 117 ∷ 115 ∷ 101 ∷ 100 ∷ 32 ∷ 49 ∷ 32 ∷ 48 ∷ 10 ∷ [])
+    × (report_text [] ≡ 114 ∷ 101 ∷ 102 ∷ 117 ∷ 115 ∷ 101 ∷ 100 ∷ 32 ∷ 49 ∷ 32 ∷ 48 ∷ 10 ∷ [])
     -- edition 2 and one byte too many: refused 1 0, since 1 comes before 10
-    × (report_text (in_bytes (2 ∷ 0 ∷ 0 ∷ 0 ∷ 0 ∷ []) ++ (0 ∷ [])) 0 ≡ 114 ∷ 101 ∷ 102 ∷ 117 ∷ 115 ∷ 101 ∷ 100 ∷ 32 ∷ 49 ∷ 32 ∷ 48 ∷ 10 ∷ [])
-unfolding report_text graph_size graph_of masks_of bad_masks answer in_bytes no_cuts little_endian tabulate digits_in decimal spaced absorbed_row
+    × (report_text ((in_bytes (2 ∷ 0 ∷ 0 ∷ 0 ∷ 0 ∷ []) ++ (0 ∷ []))) ≡ 114 ∷ 101 ∷ 102 ∷ 117 ∷ 115 ∷ 101 ∷ 100 ∷ 32 ∷ 49 ∷ 32 ∷ 48 ∷ 10 ∷ [])
+unfolding report_text graph_size graph_of masks_of bad_masks answer in_bytes no_cuts little_endian tabulate digits_in decimal spaced
     takes_operand refuse_first first_refusal bad_edition bad_counts bad_entries bad_operand bad_first bad_record bad_body bad_next after link_after comes_back bad_size graph_rows graph_answer
-    absorbed_in any all member filled any_below members sum_below has table_from grow least reach_step reached
+    any all member filled any_below members sum_below has table_from grow least reach_step reached
     kind_of chain_in chain theory_of bit_at joins absorbed
     occurrences vertices body_entries bodies_below inputs preds_by preds is_body is_leaf cone_step cone body_cone
     holds truth_in truth fires has_cycle cyclic atom_truth produced founded_step founded missing

@@ -1,5 +1,5 @@
 -- A graph past the largest one is refused by its header, and what stands past the longest exact input changes nothing.
-use mathlib.Core.Path.{◌≡◌, refl, ap, ◌∙◌}
+use mathlib.Core.Path.{◌≡◌, refl, ◌∙◌}
 use mathlib.Core.Logic.{◌⊎◌, inl, inr}
 use mathlib.Core.Bool.{Bool, true, false, ◌||◌, cond}
 use mathlib.Core.List.{List}
@@ -60,15 +60,15 @@ head_answer g e = go (bool_cases (bad_edition edition1 g))
     go (inl t) = rw t
     go (inr f) = rw (f, e)
 
-head_number : (edition : Bool) → (0 < (cond edition (refuse 1 0) (refuse 2 0)).number) × ((cond edition (refuse 1 0) (refuse 2 0)).number < 12)
+head_number : (edition : Bool) → 0 < (cond edition (refuse 1 0) (refuse 2 0)).number
 head_number true = omega arith
 head_number false = omega arith
 
 -- a graph whose header has too many of something is refused by the header, whatever stands after it
-head_only : {g h : List ℕ} (masks : List ℕ) (p : ℕ) → SameHeader g h → bad_counts edition1 h ≡ true → answer g masks p ≡ head_refusal h
-head_only {g} {h} masks p s e =
+head_only : {g h : List ℕ} (masks : List ℕ) → SameHeader g h → bad_counts edition1 h ≡ true → answer g masks ≡ head_refusal h
+head_only {g} {h} masks s e =
     let low = head_number (bad_edition edition1 h) in
-    answer_graph g masks p (head_refusal h) (head_answer g (counts_same s ∙ e) ∙ rw (edition_same s)) (λ z. omega (arith, low, z))
+    answer_graph g masks (head_refusal h) (head_answer g (counts_same s ∙ e) ∙ rw (edition_same s)) (λ z. omega (arith, low, z))
 
 -- the two lines play no part in the text of a refusal
 refused_same : (a x y : Answer) (both other : List ℕ) → x ≡ a → y ≡ a → 0 < a.number → text_by x both ≡ text_by y other
@@ -92,17 +92,14 @@ report_whole input old out r b e t = go (dec_le (graph_size input) 26634) (dec_l
     go (no s) (yes l) = part (omega arith)
     go (no s) (no l) =
         let large = size_large input (omega arith) in
-        let low = head_number (bad_edition edition1 (words 2 input)) in
         let long : 10 ≤ length input = omega arith in
-        let mine = head_only (drop b input) t.place (header_of input b long (omega arith)) large in
-        let whole = head_only (masks_of input) t.place (header_whole input long) large in
+        let mine = head_only (drop b input) (header_of input b long (omega arith)) large in
+        let whole = head_only (masks_of input) (header_whole input long) large in
         record {
-          place = t.place;
           within = t.within;
           exact = t.exact;
-          text = t.text ∙ refused_same (head_refusal (words 2 input)) _ _ _ _ mine whole low.0;
+          text = t.text ∙ refused_same (head_refusal (words 2 input)) _ _ _ _ mine whole (head_number (bad_edition edition1 (words 2 input)));
           behind = t.behind;
-          absorbed = λ z. absurd (omega (arith, low, z, ap (λ (a : Answer). a.number) whole));
         }
 
 -- ---- input past the longest exact one
@@ -113,40 +110,40 @@ unfolding bad_masks
 masks_long g masks e h = let few = accepted_few g e in rw (ne_eqb (length masks) (8 * words_of (get_or g 1 0) + 8 * words_of (get_or g 2 0)) (λ z. omega (arith, z)))
 
 -- the same graph with too many bytes after it
-long_masks : (g m k : List ℕ) (p : ℕ) (both other : List ℕ) → 256 < length m → 256 < length k → text_by (answer g m p) both ≡ text_by (answer g k p) other
-long_masks g m k p both other hm hk = go (bool_cases (eqb (graph_answer edition1 g).number 0))
+long_masks : (g m k both other : List ℕ) → 256 < length m → 256 < length k → text_by (answer g m) both ≡ text_by (answer g k) other
+long_masks g m k both other hm hk = go (bool_cases (eqb (graph_answer edition1 g).number 0))
   where
-    go : (eqb (graph_answer edition1 g).number 0 ≡ true) ⊎ (eqb (graph_answer edition1 g).number 0 ≡ false) → text_by (answer g m p) both ≡ text_by (answer g k p) other
+    go : (eqb (graph_answer edition1 g).number 0 ≡ true) ⊎ (eqb (graph_answer edition1 g).number 0 ≡ false) → text_by (answer g m) both ≡ text_by (answer g k) other
     go (inl t) =
         let e = graph_accepts g (eqb-true _ 0 t) in
-        refused_same (refuse 10 0) _ _ both other (answer_masks g m p e (masks_long g m e hm)) (answer_masks g k p e (masks_long g k e hk)) (omega arith)
+        refused_same (refuse 10 0) _ _ both other (answer_masks g m e (masks_long g m e hm)) (answer_masks g k e (masks_long g k e hk)) (omega arith)
     go (inr f) =
         let n = eqb-false (graph_answer edition1 g).number 0 f in
-        refused_same (graph_answer edition1 g) _ _ both other (answer_graph g m p _ refl n) (answer_graph g k p _ refl n) (omega arith)
+        refused_same (graph_answer edition1 g) _ _ both other (answer_graph g m _ refl n) (answer_graph g k _ refl n) (omega arith)
 
 -- the longest input that is not refused for its length has 26,890 bytes
-pub enough : (input : List ℕ) (cap p : ℕ) → 26891 ≤ cap → report_text (take cap input) p ≡ report_text input p
+pub enough : (input : List ℕ) (cap : ℕ) → 26891 ≤ cap → report_text (take cap input) ≡ report_text input
 unfolding report_text
-enough input cap p h = go (dec_le (length input) cap) (dec_le (graph_size input) 26634)
+enough input cap h = go (dec_le (length input) cap) (dec_le (graph_size input) 26634)
   where
-    go : Dec (length input ≤ cap) → Dec (graph_size input ≤ 26634) → report_text (take cap input) p ≡ report_text input p
+    go : Dec (length input ≤ cap) → Dec (graph_size input ≤ 26634) → report_text (take cap input) ≡ report_text input
     go (yes l) d = rw (take_all cap input l)
     go (no l) (yes s) =
         let long : 10 ≤ length input = omega arith in
         let some : 10 ≤ cap = omega arith in
         let cut = length-take-le cap input (omega arith) in
         rw (graph_cut input cap long some (omega arith))
-        (long_masks (graph_of input) (masks_of (take cap input)) (masks_of input) p _ _
+        (long_masks (graph_of input) (masks_of (take cap input)) (masks_of input) _ _
         (omega (arith, masks_length (take cap input), size_cut input cap long some, cut))
         (omega (arith, masks_length input)))
     go (no l) (no s) =
         let long : 10 ≤ length input = omega arith in
         let some : 10 ≤ cap = omega arith in
         let large = size_large input (omega arith) in
-        refused_same (head_refusal (words 2 input)) _ _ _ _ (head_only (masks_of (take cap input)) p (header_cut input cap long some) large)
-        (head_only (masks_of input) p (header_whole input long) large) (head_number (bad_edition edition1 (words 2 input))).0
+        refused_same (head_refusal (words 2 input)) _ _ _ _ (head_only (masks_of (take cap input)) (header_cut input cap long some) large)
+        (head_only (masks_of input) (header_whole input long) large) (head_number (bad_edition edition1 (words 2 input)))
 
 -- what `report` promises is that text
-pub reported_text : (input old out : List ℕ) (r : ℕ) (t : Reported input old out r) → take r out ≡ report_text input t.place
+pub reported_text : (input old out : List ℕ) (r : ℕ) → Reported input old out r → take r out ≡ report_text input
 unfolding report_text
 reported_text input old out r t = t.text

@@ -1,10 +1,8 @@
 -- What the program knows before it writes: a refusal, or what the two lines say.
 use Rattle.std.specs.Prelude.{◌≡◌, Bool, List, ℕ, ◌<◌, length, get_or, Result, OnOk, IfOk, IfErr}
-use Rattle.theory.specs.Sets.{Mem}
 use Rattle.theory.specs.Words.{theory_of, bit_at}
 use Rattle.theory.specs.Accepted.{edition1}
 use Rattle.theory.specs.Founded.{has_cycle, missing}
-use Rattle.theory.specs.Cases.{absorbed_in}
 use Rattle.mask.specs.Mask.{words_of, pack}
 use Rattle.refusals.specs.Answer.{Answer, accept}
 use Rattle.refusals.specs.Refusals.{graph_answer}
@@ -28,11 +26,8 @@ pub record Ready (graph never atom_never output : List ℕ) : Type 0 where
   pub atom_words : length atom_never ≡ words_of (get_or graph 1 0)
   pub output_words : length output ≡ words_of (get_or graph 1 0)
 
--- The answer for the place of a 12, which is free among the absorbed nodes of the body cone; without a refusal the loop test's reply, and in the output
--- the missing atoms.
-pub record Answered (answers : (place : ℕ) → Answer) (graph never atom_never output : List ℕ) (r : Result Bool CallError) : Type 0 where
-  pub place : ℕ
-  pub says : Says (answers place) r
-  pub absorbed : (answers place).number ≡ 12 → Mem place (absorbed_in (theory_of graph))
+-- the answer; without a refusal the loop test's reply, and in the output the missing atoms
+pub record Answered (a : Answer) (graph never atom_never output : List ℕ) (r : Result Bool CallError) : Type 0 where
+  pub says : Says a r
   pub cycle : IfOk r (λ yes. yes ≡ has_cycle (theory_of graph))
   pub listed : OnOk r (output ≡ pack (get_or graph 1 0) (missing (theory_of graph) (bit_at never) (bit_at atom_never)))

@@ -1,15 +1,12 @@
 -- The program's text as a definition of standard input's bytes (document 01, "The program").
 use Rattle.std.specs.Prelude.{◌≡◌, Bool, not, cond, List, [], ◌∷◌, ◌++◌, ℕ, ◌+◌, ◌*◌, ◌≤◌, eqb, length, get_or, take, drop}
-use Rattle.theory.specs.Sets.{Mem, members}
-use Rattle.theory.specs.Theory.{Theory}
+use Rattle.theory.specs.Sets.{members}
 use Rattle.theory.specs.Words.{theory_of, bit_at}
 use Rattle.theory.specs.Accepted.{edition1}
 use Rattle.theory.specs.Founded.{has_cycle, missing}
-use Rattle.theory.specs.Cases.{absorbed_in}
 use Rattle.mask.specs.Mask.{words_of}
 use Rattle.refusals.specs.Answer.{Answer, refuse_if, first_refusal}
-use Rattle.refusals.specs.Refusals.{graph_answer}
-use Rattle.founded.specs.Answers.{absorbed_row}
+use Rattle.refusals.specs.Refusals.{graph_answer, absorbed_row}
 use Rattle.input.specs.Bytes.{words}
 use Rattle.input.specs.Input.{graph_of, masks_of}
 use Rattle.text.specs.Text.{loops_line, missing_line, refused_line}
@@ -38,29 +35,27 @@ module _ (graph masks : List ℕ) where
   bad_masks = not (eqb (length masks) (atom_bytes + node_bytes))
 
   -- 1 to 9, then 10, then 12. 11 does not arise: the program brings the work area.
-  unfoldable pub answer : (place : ℕ) → Answer
-  answer place = first_refusal (graph_answer edition1 graph ∷ refuse_if 10 bad_masks ∷ absorbed_row (theory_of graph) place ∷ [])
+  unfoldable pub answer : Answer
+  answer = first_refusal (graph_answer edition1 graph ∷ refuse_if 10 bad_masks ∷ absorbed_row (theory_of graph) ∷ [])
 
 -- a refusal's line alone, or both lines
 abbrev pub text_by : Answer → List ℕ → List ℕ
 text_by a both = cond (eqb a.number 0) both (refused_line a.number a.place)
 
--- the whole text, where `place` is the place of a 12
-unfoldable pub report_text : List ℕ → (place : ℕ) → List ℕ
-report_text input place =
+-- the whole text
+unfoldable pub report_text : List ℕ → List ℕ
+report_text input =
     let graph = graph_of input in
     let masks = masks_of input in
-    text_by (answer graph masks place) (lines graph (node_mask graph masks) (atom_mask graph masks))
+    text_by (answer graph masks) (lines graph (node_mask graph masks) (atom_mask graph masks))
 
--- the first r bytes of out are the text, and behind it out is as it was (old); the place of a 12, and nothing else, is free among the absorbed nodes
--- of the body cone. `exact` follows from `within`; both are stated so that a caller who lends those r bytes needs no proof.
-pub record Printed (answers : (place : ℕ) → Answer) (both : List ℕ) (th : Theory) (old out : List ℕ) (r : ℕ) : Type 0 where
-  pub place : ℕ
+-- the first r bytes of out are the text, and behind it out is as it was (old). `exact` follows from `within`; both are stated so that a caller who
+-- lends those r bytes needs no proof.
+pub record Printed (a : Answer) (both old out : List ℕ) (r : ℕ) : Type 0 where
   pub within : r ≤ length out
   pub exact : r ≡ length (take r out)
-  pub text : take r out ≡ text_by (answers place) both
+  pub text : take r out ≡ text_by a both
   pub behind : drop r out ≡ drop r old
-  pub absorbed : (answers place).number ≡ 12 → Mem place (absorbed_in th)
 
 -- where the masks of an accepted graph are split: r bytes are the atom mask's, and the rest the node mask's
 pub record Split (graph masks : List ℕ) (r : ℕ) : Type 0 where
@@ -70,8 +65,8 @@ pub record Split (graph masks : List ℕ) (r : ℕ) : Type 0 where
   pub nodes_few : node_bytes graph masks ≤ 128
 
 abbrev pub ReportedOf : (graph masks old out : List ℕ) (r : ℕ) → Type 0
-ReportedOf graph masks old out r = Printed (answer graph masks) (lines graph (node_mask graph masks) (atom_mask graph masks)) (theory_of graph) old out r
+ReportedOf graph masks old out r = Printed (answer graph masks) (lines graph (node_mask graph masks) (atom_mask graph masks)) old out r
 
--- what `report` promises: its text is `report_text input place`
+-- what `report` promises: its text is `report_text input`
 abbrev pub Reported : (input old out : List ℕ) (r : ℕ) → Type 0
 Reported input old out r = ReportedOf (graph_of input) (masks_of input) old out r

@@ -6,8 +6,7 @@ ghost use Rattle.theory.specs.Words.{theory_of};
 ghost use Rattle.theory.specs.Accepted.{edition1};
 ghost use Rattle.theory.specs.Founded.{has_cycle};
 ghost use Rattle.refusals.specs.Answer.{accept};
-ghost use Rattle.refusals.specs.Refusals.{graph_answer};
-ghost use Rattle.founded.specs.Answers.{absorbed_row};
+ghost use Rattle.refusals.specs.Refusals.{graph_answer, absorbed_row};
 ghost use Rattle.mask.specs.Mask.{words_of};
 ghost use Rattle.report.specs.Report.{bad_masks, node_mask, atom_mask, answer as Report·answer, Split, ReportedOf, Reported};
 ghost use Rattle.report.specs.Answered.{Ready, Answered};
@@ -80,7 +79,6 @@ fn answer(graph: &[u16], masks: &[u8], output: &mut [u64; 16]) -> Result<bool, C
 }
 
 // The text for the graph's words and the bytes after them, at the front of lent memory (no heap), and how many bytes it takes. All behind it stays.
-#[tactic(auto, using(crate::proofs::CallLaws::answered_few))]
 fn report_graph(graph: &[u16], masks: &[u8], out: &mut [u8]) -> usize
     requires { 6144 ≤ length out.old }
     ensures { ReportedOf graph.now masks.now out.old out.new result }

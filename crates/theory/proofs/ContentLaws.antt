@@ -2,18 +2,18 @@
 -- `outcome_alike`). Graphs with the same content, in whatever edition, have such theories (`content_alike`).
 use mathlib.Core.Path.{◌≡◌, refl, sym, ap, ap₂, ◌∙◌, fun_ext}
 use mathlib.Core.Logic.{◌↔◌}
-use mathlib.Core.Bool.{Bool, true, false, ◌&&◌, cond}
+use mathlib.Core.Bool.{Bool, true, false, ◌&&◌}
 use mathlib.Core.List.{List, [], ◌∷◌, ◌++◌, map}
 use Prim.Native.Nat.{ℕ, zero, suc, ◌+◌, ◌-◌, ◌≤◌, ◌<◌}
 use native.Mathlib.Omega.{arith}
 use lib.Dec.{ltb, ltb→lt}
 use Rattle.theory.specs.Sets.{Is, Set, ◌⊆◌, everyone, Mem, filled, members}
 use Rattle.theory.specs.Theory.{Theory, WellFormed, Kind, False, Atom, And, Or, Opaque, Absorbed, joins, absorbed}
-use Rattle.theory.specs.Edges.{vertices, body_entries, bodies_below, inputs, preds_by, preds, body_cone}
+use Rattle.theory.specs.Edges.{vertices, body_entries, bodies_below, inputs, preds_by, preds, body_cone, absorbed_node}
 use Rattle.theory.specs.Truth.{fires}
 use Rattle.theory.specs.Founded.{has_cycle, cyclic, atom_truth, founded, missing}
 use Rattle.theory.specs.Words.{kind_of, theory_of}
-use Rattle.theory.specs.Cases.{Outcome, lists, refused, absorbed_in, outcome}
+use Rattle.theory.specs.Cases.{told_by, outcome}
 use Rattle.theory.specs.Alike.{Alike}
 use Rattle.theory.specs.Content.{SameContent}
 use Rattle.theory.proofs.SetLaws.{same_test, is_T, and_intro, and_left, and_right}
@@ -126,25 +126,17 @@ module _ (th other : Theory) (e : Alike th other) (ok : WellFormed th) (fine : W
   unfolding missing
   missing_alike never atom_never a = rw (cyclic_alike th other e ok fine a, founded_alike never atom_never a) refl
 
-  -- an absorbed node of the body cone
-  absorbed_same : (n : ℕ) → body_cone th n && absorbed (th.kind n) ≡ body_cone other n && absorbed (other.kind n)
+  pub absorbed_alike : (n : ℕ) → absorbed_node th n ≡ absorbed_node other n
   unfolding body_cone
-  absorbed_same n = same_test _ _
+  absorbed_alike n = same_test _ _
       (λ p. let c = and_left (body_cone th n) _ p in
       and_intro (sym (cone_alike n) ∙ c) (ap absorbed (sym (e.kinds n (cone_bound th (λ p. filled (th.heads p)) n c))) ∙ and_right (body_cone th n) _ p))
       (λ p. let c = cone_alike n ∙ and_left (body_cone other n) _ p in
       and_intro c (ap absorbed (e.kinds n (cone_bound th (λ p. filled (th.heads p)) n c)) ∙ and_right (body_cone other n) _ p))
 
-  pub absorbed_alike : absorbed_in th ≡ absorbed_in other
-  unfolding absorbed_in
-  absorbed_alike = ap₂ members e.nodes (fun_ext absorbed_same)
-
   pub outcome_alike : (never atom_never : Set) → outcome th never atom_never ≡ outcome other never atom_never
   unfolding outcome
-  outcome_alike never atom_never = ap₂ answer absorbed_alike (ap₂ members e.atoms (fun_ext (missing_alike never atom_never)))
-    where
-      answer : List ℕ → List ℕ → Outcome
-      answer a m = cond (filled a) (refused 12 a) (lists m)
+  outcome_alike never atom_never = ap₂ told_by (ap₂ members e.nodes (fun_ext absorbed_alike)) (ap₂ members e.atoms (fun_ext (missing_alike never atom_never)))
 
 -- ---- graphs
 

@@ -1,23 +1,24 @@
 -- Cases C1 to C12 of document 01 as one table: the graph's words, both masks, the loop test's answer and the outcome. C10, C11 and C12 have
 -- two rows each. That the rules give these answers: proofs/CaseLaws; that the calls do: crates/case_answers.
-use Rattle.std.specs.Prelude.{◌≡◌, Bool, true, false, ◌&&◌, cond, List, [], ◌∷◌, ℕ}
-use Rattle.theory.specs.Sets.{Set, filled, members}
-use Rattle.theory.specs.Theory.{Theory, absorbed}
-use Rattle.theory.specs.Edges.{body_cone}
+use Rattle.std.specs.Prelude.{◌≡◌, Bool, true, false, List, [], ◌∷◌, ℕ}
+use Rattle.theory.specs.Sets.{Set, members}
+use Rattle.theory.specs.Theory.{Theory}
+use Rattle.theory.specs.Edges.{absorbed_node}
 use Rattle.theory.specs.Founded.{has_cycle, missing}
 use Rattle.theory.specs.Words.{theory_of, bit_at}
 
--- the missing list, or refusal 12 with the nodes that may be its place
+-- the missing list, or a refusal's number and place
 pub data Outcome : Type 0 where
   lists : List ℕ → Outcome
-  refused : ℕ → List ℕ → Outcome
+  refused : (number place : ℕ) → Outcome
 
--- the absorbed nodes of the body cone
-unfoldable pub absorbed_in : Theory → List ℕ
-absorbed_in th = members th.nodes (λ n. body_cone th n && absorbed (th.kind n))
+-- 12 at the first of the absorbed nodes, or the list where there is none
+abbrev pub told_by : (absorbed list : List ℕ) → Outcome
+told_by [] list = lists list
+told_by (n ∷ later) list = refused 12 n
 
 unfoldable pub outcome : Theory → (never atom_never : Set) → Outcome
-outcome th never atom_never = cond (filled (absorbed_in th)) (refused 12 (absorbed_in th)) (lists (members th.atoms (missing th never atom_never)))
+outcome th never atom_never = told_by (members th.nodes (absorbed_node th)) (members th.atoms (missing th never atom_never))
 
 pub record Case : Type 0 where
   pub words : List ℕ
@@ -71,7 +72,7 @@ table =
     ∷ case (beside 4) (2 ∷ []) (0 ∷ []) true (lists (0 ∷ []))
     ∷ case c11 (0 ∷ []) (0 ∷ []) true (lists [])
     ∷ case c11 (0 ∷ []) (2 ∷ []) true (lists (0 ∷ []))
-    ∷ case (alone 7) (0 ∷ []) (0 ∷ []) false (refused 12 (0 ∷ []))
+    ∷ case (alone 7) (0 ∷ []) (0 ∷ []) false (refused 12 0)
     ∷ case c12 (0 ∷ []) (0 ∷ []) false (lists [])
     ∷ []
 

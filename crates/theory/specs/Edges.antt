@@ -2,7 +2,7 @@
 use Rattle.std.specs.Prelude.{Bool, true, false, ◌&&◌, ◌||◌, cond, List, [], ◌∷◌, ◌++◌, map, ℕ, zero, suc, ◌+◌, ◌-◌, eqb, ltb}
 use Rattle.theory.specs.Sets.{Set, member, filled, any_below}
 use Rattle.theory.specs.Least.{has, least}
-use Rattle.theory.specs.Theory.{Theory, Kind, False, Atom, And, Or, Opaque, Absorbed, joins}
+use Rattle.theory.specs.Theory.{Theory, Kind, False, Atom, And, Or, Opaque, Absorbed, joins, absorbed}
 
 -- x once for each time that k is in the list
 unfoldable pub occurrences : ℕ → ℕ → List ℕ → List ℕ
@@ -59,6 +59,10 @@ module _ (th : Theory) where
   -- document 01's first cone: from the producers with at least one head
   unfoldable pub body_cone : Set
   body_cone = cone (λ p. filled (th.heads p))
+
+  -- an absorbed node of the body cone, which refusal 12 is for
+  abbrev pub absorbed_node : Set
+  absorbed_node n = body_cone n && absorbed (th.kind n)
 
   -- the vertices of preparation: all atoms and the body cone
   unfoldable pub in_graph : Set

@@ -1,4 +1,4 @@
-use Rattle.abi.proofs.CodeLaws.{needed_told, needed_placed}
+use Rattle.abi.proofs.CodeLaws.{needed_placed}
 use Prim.Native.Nat.{◌<◌}
 use native.Mathlib.Omega.{arith}
 use lib.ListN.{get_or}

@@ -4,4 +4,4 @@ use Rattle.agreement.proofs.program_agrees.Goals as goal
 
 pub returns : goal.returns
 unfolding report_text
-returns c = record { place = c.report-n.ensures.place; absorbed = c.report-n.ensures.absorbed; told = search rules }
+returns c = search rules

@@ -1,4 +1,4 @@
-use mathlib.Core.Path.{refl, sym, ◌∙◌}
+use mathlib.Core.Path.{refl, ◌∙◌}
 use native.Mathlib.Omega.{arith}
 use Rattle.refusals.proofs.AcceptedLaws.{accepted}
 use Rattle.words.proofs.NumberLaws.{numbers_length}
@@ -24,7 +24,7 @@ unfolding Listed
 returns-in-Ok g c =
     let k = c.in-Ok.ensures in
     completes
-    (done g.W.Word.edition _ _ _ _ c.requires.0 c.requires.1 (work_fits g.W.Word.edition (g.W.Word.numbers c.args.graph.now) _ c.requires.2) (g.W.Word.numbers c.missing.new.work) c.hand_out.ensures.words_after c.bases_of-b.result.dependencies c.bases_of-b.ensures.atoms k.size k.none k.flags c.hand_out.ensures.output_after)
+    (done g.W.Word.edition _ _ _ _ c.requires.0 c.requires.1 (work_fits g.W.Word.edition (g.W.Word.numbers c.args.graph.now) _ c.requires.2) (g.W.Word.numbers c.missing.new.work) c.hand_out.ensures.words_after c.bases_of-b.result.dependencies c.bases_of-b.ensures.atoms k.size k.row k.flags c.hand_out.ensures.output_after)
     (λ q. refl)
 
 pub returns-in-Err : goal.returns-in-Err

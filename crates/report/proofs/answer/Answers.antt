@@ -29,7 +29,7 @@ pub returns : goal.returns
 returns c =
     let n = c.words-atoms.ensures.count ∙ ap (λ (k : ℕ). k / 8) c.split_at.ensures.front_len in
     let part : words_of (get_or c.args.graph.now 1 0) ≡ length c.pass.new.output = sym (c.pass.auto.output ∙ length-take-le _ _ (omega (arith, atom_room c.atom_bytes.ensures n)) ∙ atom_words c.atom_bytes.ensures n) in
-    answered_same (λ p. answer_row c.args.graph.now c.args.masks.now p (sym c.in_ok-check.ensures) (sym c.bad_masks.ensures ∙ c.if-bad_masks.false))
+    answered_same (answer_row c.args.graph.now c.args.masks.now (sym c.in_ok-check.ensures) (sym c.bad_masks.ensures ∙ c.if-bad_masks.false))
     (c.words-nodes.ensures.decoded ∙ ap (words 8) c.split_at.ensures.back ∙ node_mask_lem c.atom_bytes.ensures)
     (c.words-atoms.ensures.decoded ∙ ap (words 8) c.split_at.ensures.front ∙ atom_mask_lem c.atom_bytes.ensures)
     (rw part (take-append_seam c.pass.new.output _)) c.pass.ensures

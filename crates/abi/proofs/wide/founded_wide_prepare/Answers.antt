@@ -1,8 +1,9 @@
 use Prim.Native.Nat.{◌<◌}
 use native.Mathlib.Omega.{arith}
-use lib.ListN.{get_or}
+use lib.ListN.{length, get_or}
 use Rattle.theory.specs.Accepted.{edition2}
 use Rattle.founded.proofs.PlaceLaws.{prepared_place}
+use Rattle.abi.proofs.CodeLaws.{prepared_told}
 use Rattle.abi.proofs.wide.founded_wide_prepare.Goals as goal
 
 pub call_code-requires : goal.call_code-requires
@@ -10,4 +11,7 @@ call_code-requires c =
     let n : get_or c.args.graph.now 2 0 < 4294967296 = omega (arith, c.shared_slice_known-1.given 2) in
     let p : get_or c.args.graph.now 3 0 < 4294967296 = omega (arith, c.shared_slice_known-1.given 3) in
     let k : get_or c.args.graph.now 4 0 < 4294967296 = omega (arith, c.shared_slice_known-1.given 4) in
-    prepared_place (omega arith) edition2 c.args.graph.now n p k c.prepare.ensures
+    rw c.prepare.ensures.answer (prepared_place (omega arith) edition2 c.args.graph.now n p k (length c.args.output.now) (length c.args.work.now))
+
+pub returns : goal.returns
+returns c = prepared_told 4294967296 edition2 c.prepare.ensures c.call_code.ensures
