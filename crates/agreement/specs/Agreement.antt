@@ -1,6 +1,5 @@
 -- When a call agrees with what is recorded of it. Output and work area are soiled before a call, so that a word left alone or wrongly cleared shows.
-use Rattle.std.specs.Prelude.{◌≡◌, Bool, true, ◌||◌, cond, List, [], ◌∷◌, ◌↔◌, ℕ, ◌/◌, ◌%◌, eqb, length, replicate}
-use Rattle.theory.specs.Sets.{Mem}
+use Rattle.std.specs.Prelude.{◌≡◌, Bool, true, ◌||◌, cond, List, ◌↔◌, ℕ, eqb, length, replicate}
 use Rattle.theory.specs.Accepted.{edition1}
 use Rattle.refusals.specs.Answer.{refuse}
 use Rattle.refusals.specs.Refusals.{graph_answer}
@@ -14,10 +13,6 @@ soiled n = replicate n 21845
 abbrev pub soiled_wide : ℕ → List ℕ
 soiled_wide n = replicate n 6148914691236517205
 
--- the places that are right: 0 after success, and after a refusal those that are listed
-abbrev pub right_places : (number : ℕ) → List ℕ → List ℕ
-right_places number places = cond (eqb number 0) (0 ∷ []) places
-
 -- the output of k words that is right: the recorded words after success, and after a refusal soil
 abbrev pub right_output : (number : ℕ) → List ℕ → ℕ → List ℕ
 right_output number words k = cond (eqb number 0) words (soiled_wide k)
@@ -26,10 +21,9 @@ right_output number words k = cond (eqb number 0) words (soiled_wide k)
 abbrev pub right_work : (number n : ℕ) → List ℕ
 right_work number n = cond (eqb number 0 || eqb number 12) (replicate n 0) (soiled n)
 
--- an answer's code and what the call left, beside what is recorded: number, places and words
-pub record Agrees (number : ℕ) (places words : List ℕ) (code : ℕ) (output work : List ℕ) : Type 0 where
-  pub number_right : code / 65536 ≡ number
-  pub place_right : Mem (code % 65536) (right_places number places)
+-- an answer's code and what the call left, beside what is recorded: number, place and words
+pub record Agrees (number place : ℕ) (words : List ℕ) (code : ℕ) (output work : List ℕ) : Type 0 where
+  pub code_right : code ≡ code_of 65536 (refuse number place)
   pub output_right : output ≡ right_output number words (length output)
   pub work_right : work ≡ right_work number (length work)
 
@@ -49,18 +43,18 @@ pub record NeededAgrees (graph : List ℕ) (n number place reply : ℕ) (r : Boo
   pub told : (r ≡ true) ↔ ((code ≡ needed_code number place reply) × (work ≡ right_work number (length work)))
 
 -- a call that promises this of the output and the work area that it leaves and of its code
-pub record OutcomeAgrees (Promised : (output work : List ℕ) (code : ℕ) → Type 0) (number : ℕ) (places words : List ℕ) (r : Bool) : Type 0 where
+pub record OutcomeAgrees (Promised : (output work : List ℕ) (code : ℕ) → Type 0) (number place : ℕ) (words : List ℕ) (r : Bool) : Type 0 where
   pub code : ℕ
   pub output : List ℕ
   pub work : List ℕ
   pub promised : Promised output work code
-  pub told : (r ≡ true) ↔ Agrees number places words code output work
+  pub told : (r ≡ true) ↔ Agrees number place words code output work
 
 -- preparation and pass over a soiled output of k words and a soiled work area of n words
-abbrev pub PrepareAgrees : (graph : List ℕ) (k n number : ℕ) (places words : List ℕ) → Bool → Type 0
+abbrev pub PrepareAgrees : (graph : List ℕ) (k n number place : ℕ) (words : List ℕ) → Bool → Type 0
 PrepareAgrees graph k n = OutcomeAgrees (PreparedAs 65536 edition1 graph (soiled_wide k) (soiled n))
 
-abbrev pub CompleteAgrees : (graph never atom_never : List ℕ) (k n number : ℕ) (places words : List ℕ) → Bool → Type 0
+abbrev pub CompleteAgrees : (graph never atom_never : List ℕ) (k n number place : ℕ) (words : List ℕ) → Bool → Type 0
 CompleteAgrees graph never atom_never k n = OutcomeAgrees (CompletedAs 65536 edition1 graph never atom_never (soiled_wide k) (soiled n))
 
 -- the program's text

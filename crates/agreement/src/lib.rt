@@ -2,10 +2,9 @@
 #![tactic(auto)]
 
 ghost use Rattle.std.specs.Prelude.{◌≡◌, true, ◌↔◌, length};
-ghost use Rattle.theory.specs.Sets.{Mem};
 ghost use Rattle.refusals.specs.Answer.{refuse};
 ghost use Rattle.abi.specs.Codes.{Tells};
-ghost use Rattle.agreement.specs.Agreement.{right_places, right_output, right_work, Agrees, needed_code, CheckAgrees, NeededAgrees, PrepareAgrees, CompleteAgrees, ProgramAgrees};
+ghost use Rattle.agreement.specs.Agreement.{right_output, right_work, Agrees, needed_code, CheckAgrees, NeededAgrees, PrepareAgrees, CompleteAgrees, ProgramAgrees};
 
 use abi::codes::Code;
 
@@ -13,10 +12,10 @@ const SOIL: u16 = 21845;
 
 const WIDE_SOIL: u64 = 6148914691236517205;
 
-// In Answer, Outcome and work_agrees a refusal's number stays a number, and 0 that of success: the recorded list has it so, and so has the code of a call, beside which it is put.
+// In Answer and work_agrees a refusal's number stays a number, and 0 that of success: the recorded list has it so, and so has the code of a call, beside which it is put.
 // An enum would be made of the one number only to be turned into the other.
 
-/// What the graph check or the loop test should answer: the number of a refusal and its place, or twice 0.
+/// What a call should answer: the number of a refusal and its place, or twice 0.
 #[derive(Clone, Copy, Debug, PartialEq, Eq)]
 pub struct Answer {
     pub number: u16,
@@ -42,42 +41,30 @@ impl Answer {
     }
 }
 
-/// What preparation or the pass should answer and leave: a refusal's number and its places, of which one is answered, or 0 and the output's words.
+/// What preparation or the pass should answer and leave: a refusal, or twice 0 and the output's words.
 #[derive(Clone, Copy)]
 pub struct Outcome<'a> {
-    pub number: u16,
-    pub places: &'a [u16],
+    pub answer: Answer,
     pub words: &'a [u64],
 }
 
 impl Outcome<'_> {
-    #[tactic(auto, using(crate::proofs::CompareLaws::among, crate::proofs::CompareLaws::among_one))]
-    fn place_agrees(&self, place: u16) -> bool
-        ensures { (result ≡ true) ↔ Mem place (right_places self.now.number self.now.places.now) }
-    {
-        if self.number == 0 {
-            return place == 0;
-        }
-        self.places.contains(&place)
-    }
-
     fn output_agrees(&self, output: &[u64]) -> bool
-        ensures { (result ≡ true) ↔ (output.now ≡ right_output self.now.number self.now.words.now (length output.now)) }
+        ensures { (result ≡ true) ↔ (output.now ≡ right_output self.now.answer.number self.now.words.now (length output.now)) }
     {
-        if self.number == 0 {
+        if self.answer.number == 0 {
             return output == self.words;
         }
         output.iter().all(|word| *word == WIDE_SOIL)
     }
 
-    // What the call answered and left. (The code is number · 65,536 + place. std has nothing that splits a u32 in its halves; by way of its four bytes they would be two lines more.)
+    // What the call answered and left.
     fn agrees(&self, code: u32, output: &[u64], work: &[u16]) -> bool
-        ensures { (result ≡ true) ↔ Agrees self.now.number self.now.places.now self.now.words.now code output.now work.now }
+        ensures { (result ≡ true) ↔ Agrees self.now.answer.number self.now.answer.place self.now.words.now code output.now work.now }
     {
-        code / 65536 == u32::from(self.number)
-            && self.place_agrees((code % 65536) as u16)
+        code == self.answer.code()
             && self.output_agrees(output)
-            && work_agrees(self.number, work)
+            && work_agrees(self.answer.number, work)
     }
 }
 
@@ -116,7 +103,7 @@ pub fn prepare_agrees(
     work: &mut [u16],
     outcome: &Outcome,
 ) -> bool
-    ensures { PrepareAgrees graph.now (length output.old) (length work.old) outcome.now.number outcome.now.places.now outcome.now.words.now result }
+    ensures { PrepareAgrees graph.now (length output.old) (length work.old) outcome.now.answer.number outcome.now.answer.place outcome.now.words.now result }
 {
     output.fill(WIDE_SOIL);
     work.fill(SOIL);
@@ -133,7 +120,7 @@ pub fn complete_agrees(
     work: &mut [u16],
     outcome: &Outcome,
 ) -> bool
-    ensures { CompleteAgrees graph.now never.now atom_never.now (length output.old) (length work.old) outcome.now.number outcome.now.places.now outcome.now.words.now result }
+    ensures { CompleteAgrees graph.now never.now atom_never.now (length output.old) (length work.old) outcome.now.answer.number outcome.now.answer.place outcome.now.words.now result }
 {
     output.fill(WIDE_SOIL);
     work.fill(SOIL);

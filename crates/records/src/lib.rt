@@ -78,9 +78,6 @@ impl TryFrom<u16> for Call {
     }
 }
 
-/// The places of a refusal; after success there is none.
-pub type Places = ArrayVec<u16, 1024>;
-
 /// A mask or an output.
 pub type Wide = ArrayVec<u64, 32>;
 
@@ -109,7 +106,7 @@ fn read_mask<R: Read>(reader: &mut Reader<R>) -> Result<Wide, Malformed>
     reader.list(n)
 }
 
-// Numbers of refusals stay numbers in Check, Needed and Prepare and in most_places, read_places and read_output, with 0 for success: the format has them so, and `agreement` puts them
+// Numbers of refusals stay numbers in Check, Needed and Prepare and in read_output, with 0 for success: the format has them so, and `agreement` puts them
 // beside the number in the code of a call. An enum would be made of the one number only to be turned into the other.
 
 /// The number and the place of a refusal, or twice 0. (`agreement::Answer` is the like of it, in a crate that this one does not stand on.)
@@ -154,22 +151,6 @@ impl Needed {
     }
 }
 
-// After success there is no place.
-fn most_places(number: u16) -> usize
-    ensures value { result ≡ (if number == 0 then 0 else 1024) }
-    ensures bound { result ≤ 1024 }
-{
-    if number == 0 { 0 } else { 1024 }
-}
-
-fn read_places<R: Read>(reader: &mut Reader<R>, number: u16) -> Result<Places, Malformed>
-    ensures kept { Keeps reader.old reader.new result }
-    ensures told { Tells reader.new result }
-{
-    let n = length(reader, most_places(number))?;
-    reader.list(n)
-}
-
 // After success the output's words, and after a refusal as many zeros.
 fn read_output<R: Read>(reader: &mut Reader<R>, number: u16, n: usize) -> Result<Wide, Malformed>
     requires { n ≤ 32 }
@@ -192,7 +173,7 @@ fn read_output<R: Read>(reader: &mut Reader<R>, number: u16, n: usize) -> Result
 pub struct Prepare {
     pub work: usize,
     pub number: u16,
-    pub places: Places,
+    pub place: u16,
     pub output: Wide,
 }
 
@@ -208,7 +189,7 @@ impl Prepare {
         Ok(Prepare {
             work,
             number,
-            places: read_places(reader, number)?,
+            place: reader.next()?,
             output: read_output(reader, number, n)?,
         })
     }
@@ -260,14 +241,12 @@ fn read_input<R: Read>(reader: &mut Reader<R>, room: &mut [u8]) -> Result<usize,
     Ok(n)
 }
 
-// The text, behind number and places. Of a 12 it is the text for the lowest place, which is the one that `report` gives.
+// The text, behind number and place, which it has too.
 fn read_text<R: Read>(reader: &mut Reader<R>) -> Result<Text, Malformed>
     ensures kept { Keeps reader.old reader.new result }
     ensures told { Tells reader.new result }
 {
-    reader.next()?;
-    let count = usize::from(reader.next()?);
-    reader.skip(count)?;
+    reader.skip(2)?;
     let n = length(reader, 6144)?;
     reader.bytes(n)
 }

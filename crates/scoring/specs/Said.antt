@@ -14,11 +14,11 @@ abbrev pub NeededSaid : (graph : List ℕ) → Needed → Bool → Type 0
 NeededSaid graph s = NeededAgrees graph s.work s.number s.place s.reply
 
 abbrev pub PrepareSaid : (graph : List ℕ) → Prepare → Bool → Type 0
-PrepareSaid graph s = PrepareAgrees graph (length s.output.items) s.work s.number s.places.items s.output.items
+PrepareSaid graph s = PrepareAgrees graph (length s.output.items) s.work s.number s.place s.output.items
 
 abbrev pub CompleteSaid : (graph : List ℕ) → Complete → Bool → Type 0
 CompleteSaid graph s =
-    CompleteAgrees graph s.never.items s.atom_never.items (length s.rest.output.items) s.rest.work s.rest.number s.rest.places.items s.rest.output.items
+    CompleteAgrees graph s.never.items s.atom_never.items (length s.rest.output.items) s.rest.work s.rest.number s.rest.place s.rest.output.items
 
 -- the input is what stands first in the lent bytes
 abbrev pub RunSaid : (bytes : List ℕ) → Run → Bool → Type 0

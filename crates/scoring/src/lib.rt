@@ -101,13 +101,15 @@ pub fn score_needed<R: Read>(
 
 // What was read of preparation, or of the pass, as the comparison takes it.
 fn outcome(said: &Prepare) -> Outcome<'_>
-    ensures number { result.number ≡ said.now.number }
-    ensures places { result.places.now ≡ said.now.places.items }
+    ensures number { result.answer.number ≡ said.now.number }
+    ensures place { result.answer.place ≡ said.now.place }
     ensures words { result.words.now ≡ said.now.output.items }
 {
     Outcome {
-        number: said.number,
-        places: said.places.as_slice(),
+        answer: Answer {
+            number: said.number,
+            place: said.place,
+        },
         words: said.output.as_slice(),
     }
 }

@@ -137,7 +137,7 @@ fn both_sides_answer_alike_on_large_graphs() {
 /// The plain check against document 01's reading of the table; that of edition 2
 /// against the proved one.
 fn same_refusal(words: &[u16]) {
-    let expected = paper::check(words).map_err(|refusal| (refusal.number, refusal.places[0]));
+    let expected = paper::check(words).map_err(|refusal| (refusal.number, refusal.place));
     assert_eq!(plain::check(words), expected, "{words:?}");
     let wide = widened(words);
     // Safety: pointer and length are those of a slice.

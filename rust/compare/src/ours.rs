@@ -330,7 +330,7 @@ impl<W: Word> Ours<W> {
         self.output.lend((0..length).map(|_| rng.word()));
     }
 
-    /// Number and place; of a 12, one of its places.
+    /// Number and place.
     fn answered(
         &mut self,
         call: &str,
@@ -342,7 +342,7 @@ impl<W: Word> Ours<W> {
             Ok(answer) => found == (0, answer),
             Err(refusal) => {
                 self.made.refused[usize::from(refusal.number)] += 1;
-                found.0 == u32::from(refusal.number) && refusal.places.contains(&found.1)
+                found == (u32::from(refusal.number), refusal.place)
             }
         };
         if right {

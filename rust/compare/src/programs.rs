@@ -97,8 +97,7 @@ impl fmt::Display for Difference {
 /// handed the pieces that its input comes in.
 ///
 /// # Errors
-/// The first run that did not print the papers' text (of a 12, one with any of
-/// its places), or not that alone.
+/// The first run that did not print the papers' text, or not that alone.
 pub fn compare(
     seed: u64,
     count: u64,
@@ -109,7 +108,7 @@ pub fn compare(
         tally.runs += 1;
         let wanted = paper::program::run(&input.bytes);
         let fault = match program(&input.pieces()) {
-            Ok(ended) => fault(&paper::program::texts(&wanted), &ended),
+            Ok(ended) => fault(&paper::program::text(&wanted), &ended),
             Err(error) => Some(format!("it was not run to its end: {error}")),
         };
         if let Some(what) = fault {
@@ -126,9 +125,9 @@ pub fn compare(
     Ok(tally)
 }
 
-fn fault(wanted: &[Vec<u8>], ended: &Ended) -> Option<String> {
-    if !wanted.contains(&ended.printed) {
-        let (printed, wanted) = (short_text(&ended.printed), short_text(&wanted[0]));
+fn fault(wanted: &[u8], ended: &Ended) -> Option<String> {
+    if ended.printed != wanted {
+        let (printed, wanted) = (short_text(&ended.printed), short_text(wanted));
         return Some(format!("printed {printed}\nwanted {wanted}"));
     }
     if ended.status != Some(0) {

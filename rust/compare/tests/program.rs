@@ -7,12 +7,10 @@ use compare::random::{self, SCALES};
 use compare::record::input;
 use compare::rng::Rng;
 use paper::WORK_WORDS;
-use paper::program::{Report, run, texts};
+use paper::program::{self, Report, run};
 
 fn text(bytes: &[u8]) -> String {
-    let texts = texts(&run(bytes));
-    assert_eq!(texts.len(), 1);
-    String::from_utf8(texts[0].clone()).expect("text")
+    String::from_utf8(program::text(&run(bytes))).expect("text")
 }
 
 /// C2 with both masks zero, as document 01 prints it.

@@ -5,11 +5,11 @@ use std::process::Command;
 use std::time::Duration;
 
 use compare::programs::{COUNT, Difference, Ended, MOST, SEED, Tally, compare, process};
-use paper::program::{run, texts};
+use paper::program::{self, run};
 
 /// The papers' text for these bytes.
 fn text(bytes: &[u8]) -> Vec<u8> {
-    texts(&run(bytes)).swap_remove(0)
+    program::text(&run(bytes))
 }
 
 type Program = Box<dyn Fn(&[&[u8]]) -> Ended>;

@@ -34,7 +34,7 @@ fn cases_c1_to_c12() {
             }
             Expected::Absorbed(place) => {
                 let refusal = graph.prepared().expect_err(case.name);
-                assert_eq!((refusal.number, refusal.places), (12, vec![place]));
+                assert_eq!((refusal.number, refusal.place), (12, place));
                 let found = original.missing(&masks.0, &masks.1);
                 assert_eq!(found, Err(Ended::InvalidProgram));
             }
@@ -44,10 +44,9 @@ fn cases_c1_to_c12() {
 
 fn edges_of<W: Word>() {
     for edge in edges::all::<W>() {
-        let found = paper::check(&edge.words).err().map(|refusal| {
-            assert_eq!(refusal.places.len(), 1);
-            (refusal.number, refusal.places[0])
-        });
+        let found = paper::check(&edge.words)
+            .err()
+            .map(|refusal| (refusal.number, refusal.place));
         assert_eq!(found, edge.refusal, "{}", edge.name);
     }
 }

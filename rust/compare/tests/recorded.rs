@@ -76,16 +76,12 @@ impl<'a> Reader<'a> {
         self.words(length)
     }
 
-    fn places(&mut self) -> Vec<u32> {
-        self.list().into_iter().map(u32::from).collect()
-    }
-
-    /// A recorded answer with its places and, if not turned away, its output.
+    /// A recorded answer and, if not turned away, its output.
     fn answer(&mut self, output: usize) -> Result<Vec<u64>, Refusal> {
-        let (number, places) = (self.word() as u16, self.places());
+        let (number, place) = (self.word() as u16, self.word() as u32);
         match number {
             0 => Ok(self.wide(output)),
-            _ => Err(Refusal { number, places }),
+            _ => Err(Refusal { number, place }),
         }
     }
 }
@@ -94,7 +90,7 @@ fn number_and_place<T>(answer: &Result<T, Refusal>) -> [usize; 2] {
     answer
         .as_ref()
         .err()
-        .map_or([0, 0], |r| [r.number.into(), r.places[0] as usize])
+        .map_or([0, 0], |r| [r.number.into(), r.place as usize])
 }
 
 /// A graph's calls, answered anew; how many.
@@ -131,12 +127,7 @@ fn graph(reader: &mut Reader<'_>) -> usize {
 fn run(reader: &mut Reader<'_>) {
     let length = reader.word() + 65_536 * reader.word();
     let report = paper::program::run(reader.padded(length));
-    assert_eq!(number_and_place(&report)[0], reader.word());
-    let places = reader.places();
-    match &report {
-        Err(refusal) if refusal.number == 12 => assert_eq!(refusal.places, places),
-        _ => assert!(places.is_empty()),
-    }
+    assert_eq!(number_and_place(&report), [reader.word(), reader.word()]);
     let length = reader.word();
-    assert_eq!(paper::program::texts(&report)[0], reader.padded(length));
+    assert_eq!(paper::program::text(&report), reader.padded(length));
 }

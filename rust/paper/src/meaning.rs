@@ -83,16 +83,12 @@ impl Graph {
     /// Preparation, cuts ignored.
     ///
     /// # Errors
-    /// 12, with every condition of kind 7 in the first cone.
+    /// 12, at the lowest-numbered condition of kind 7 in the first cone (request 3).
     pub fn prepared(&self) -> Result<Prepared<'_>, Refusal> {
         let cone = self.first_cone();
         let absorbed = |c: &usize| cone[*c] && self.nodes[*c].kind == Kind::Absorbed;
-        let places: Vec<u32> = (0..self.nodes.len())
-            .filter(absorbed)
-            .map(|c| c as u32)
-            .collect();
-        if !places.is_empty() {
-            return Err(Refusal { number: 12, places });
+        if let Some(c) = (0..self.nodes.len()).find(absorbed) {
+            return Err(Refusal::at(12, c));
         }
         let mut marked = self.closed(&cone);
         marked.truncate(self.atoms);

@@ -48,14 +48,11 @@ fn masks(rest: &[u8], graph: &Graph) -> Result<(Vec<u64>, Vec<u64>), Refusal> {
     Ok((wide(first), wide(remainder)))
 }
 
-/// The text of a run, one for each place that the refusal may return.
-pub fn texts(run: &Result<Report, Refusal>) -> Vec<Vec<u8>> {
+/// The text of a run.
+pub fn text(run: &Result<Report, Refusal>) -> Vec<u8> {
     match run {
-        Ok(report) => vec![report_text(report).into_bytes()],
-        Err(Refusal { number, places }) => places
-            .iter()
-            .map(|place| format!("refused {number} {place}\n").into_bytes())
-            .collect(),
+        Ok(report) => report_text(report).into_bytes(),
+        Err(Refusal { number, place }) => format!("refused {number} {place}\n").into_bytes(),
     }
 }
 

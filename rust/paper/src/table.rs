@@ -4,19 +4,18 @@
 
 use crate::edition::{Edition, Word};
 
-/// A call turned away: the row's number and each place it may return. Only 12
-/// can have several, ascending.
-#[derive(Clone, Debug, PartialEq, Eq)]
+/// A call turned away: the row's number and its place.
+#[derive(Clone, Copy, Debug, PartialEq, Eq)]
 pub struct Refusal {
     pub number: u16,
-    pub places: Vec<u32>,
+    pub place: u32,
 }
 
 impl Refusal {
     pub(crate) fn at(number: u16, place: usize) -> Self {
         Self {
             number,
-            places: vec![place.try_into().expect("a place is 32 bits")],
+            place: place.try_into().expect("a place is 32 bits"),
         }
     }
 }

@@ -90,14 +90,14 @@ impl Recording {
         match call {
             Call::Check => {
                 self.begin(1);
-                self.one_place(&paper::check(words));
+                self.place(&paper::check(words));
             }
             Call::Needed { work } => {
                 self.begin(2);
                 self.word(*work);
                 let answer =
                     paper::needed(words, *work).map(|yes| agreed(yes, original(words).needed()));
-                self.one_place(&answer);
+                self.place(&answer);
                 self.word(usize::from(answer == Ok(true)));
             }
             Call::Prepare { output, work } => {
@@ -105,7 +105,7 @@ impl Recording {
                 self.word(*output);
                 self.word(*work);
                 let marked = paper::prepare(words, *output, *work);
-                self.list(settled(marked, || original(words).cyclic_atoms()));
+                self.list(&settled(marked, || original(words).cyclic_atoms()));
             }
             Call::Complete {
                 never,
@@ -125,7 +125,7 @@ impl Recording {
         self.word(output);
         self.word(work);
         let missing = paper::complete(words, masks[0], masks[1], output, work);
-        self.list(settled(missing, || {
+        self.list(&settled(missing, || {
             original(words).missing(masks[0], masks[1])
         }));
     }
@@ -145,31 +145,21 @@ impl Recording {
     }
 
     /// Number and place, both 0 if not turned away.
-    fn one_place<T>(&mut self, answer: &Result<T, Refusal>) {
+    fn place<T>(&mut self, answer: &Result<T, Refusal>) {
         self.number(answer);
         self.word(
             answer
                 .as_ref()
                 .err()
-                .map_or(0, |refusal| refusal.places[0] as usize),
+                .map_or(0, |refusal| refusal.place as usize),
         );
     }
 
-    /// A count of places, and the places.
-    fn places(&mut self, places: &[u32]) {
-        self.word(places.len());
-        places.iter().for_each(|&place| self.word(place as usize));
-    }
-
-    /// Number, all places, and the output if not turned away.
-    fn list(&mut self, answer: Result<Vec<u64>, Refusal>) {
-        self.number(&answer);
-        match answer {
-            Ok(output) => {
-                self.places(&[]);
-                self.wide(&output);
-            }
-            Err(refusal) => self.places(&refusal.places),
+    /// Number and place, and the output if not turned away.
+    fn list(&mut self, answer: &Result<Vec<u64>, Refusal>) {
+        self.place(answer);
+        if let Ok(output) = answer {
+            self.wide(output);
         }
     }
 
@@ -182,12 +172,8 @@ impl Recording {
         self.word(input.len() / 65_536);
         self.padded(input);
         let report = paper::program::run(input);
-        self.number(&report);
-        match &report {
-            Err(refusal) if refusal.number == 12 => self.places(&refusal.places),
-            _ => self.places(&[]),
-        }
-        let text = paper::program::texts(&report).swap_remove(0);
+        self.place(&report);
+        let text = paper::program::text(&report);
         self.word(text.len());
         self.padded(&text);
     }
