@@ -1,9 +1,10 @@
--- A code that is made of an answer's number and place tells the answer (`told`). Preparation and pass, whose code tells their answer (`prepared_told`, `completed_told`). The loop test's number (`needed_told`): it tells the outcome, and on success it is 1 exactly if there is a closed walk. How many words the work area has: `words_refused`, `words_accepted`.
+-- A code that is made of an answer's number and place tells the answer (`told`). Preparation and pass, whose code tells their answer (`prepared_told`, `completed_told`); over masks filled up with zero words the pass gives the same
+-- code and leaves the same words (`filled_told`). The loop test's number (`needed_told`): it tells the outcome, and on success it is 1 exactly if there is a closed walk. How many words the work area has: `words_refused`, `words_accepted`.
 use mathlib.Core.Path.{◌≡◌, refl, sym, ap, ◌∙◌}
 use mathlib.Core.Logic.{◌↔◌}
 use mathlib.Core.Bool.{Bool, true, false, not, cond, true≢false}
 use mathlib.Core.List.{List}
-use Prim.Native.Nat.{ℕ, ◌<◌}
+use Prim.Native.Nat.{ℕ, ◌+◌, ◌<◌, ◌≤◌}
 use native.Mathlib.Omega.{arith}
 use borrow.Author.Tests.{eq-eqb}
 use lib.Dec.{eqb}
@@ -12,6 +13,7 @@ use Rattle.std.specs.Prelude.{Result}
 use Rattle.theory.specs.Words.{theory_of}
 use Rattle.theory.specs.Accepted.{Edition, area_of}
 use Rattle.theory.specs.Founded.{has_cycle}
+use Rattle.mask.specs.Mask.{words_of}
 use Rattle.refusals.specs.Answer.{Answer, accept, refuse, refuse_if}
 use Rattle.refusals.specs.Refusals.{graph_answer, refused_as}
 use Rattle.refusals.specs.declared.Refusal.{Refusal}
@@ -20,7 +22,8 @@ use Rattle.refusals.proofs.PlaceLaws.{if_place, or_place, graph_place}
 use Rattle.cycles.specs.Outcome.{Outcome, refused, loops, refusal, outcome, work_after, ClosedWalk}
 use Rattle.founded.specs.declared.CallError.{CallError}
 use Rattle.founded.specs.Answers.{call_of, Prepares, Completes}
-use Rattle.abi.specs.Codes.{Tells, NeedTells, Placed, Needed, PreparedAs, CompletedAs, work_words}
+use Rattle.founded.proofs.ShortLaws.{filled, filled_answer, filled_leaves}
+use Rattle.abi.specs.Codes.{code_of, Tells, NeedTells, Placed, Needed, PreparedAs, CompletedAs, work_words}
 
 pub told : {lim : ℕ} {a : Answer} {n p r : ℕ} → n ≡ a.number → p ≡ a.place → Tells lim (refuse n p) r → Tells lim a r
 told e q t = rw (e, q) at t
@@ -36,6 +39,13 @@ module _ (lim : ℕ) (ed : Edition) where
   pub completed_told : {graph never atom_never output work output' work' : List ℕ} {a : Result (Unit {0}) CallError} {r : ℕ} → Completes ed graph never atom_never output work output' work' a → Tells lim (call_of a) r
       → CompletedAs lim ed graph never atom_never output work output' work' r
   completed_told h t = record { told = rw (← h.answer) t; leaves = rw (← h.answer) h.leaves }
+
+  pub filled_told : (graph never atom_never : List ℕ) (j k : ℕ) → length never + j ≤ words_of (get_or graph 2 0) → length atom_never + k ≤ words_of (get_or graph 1 0) → {output work o₁ o₂ w₁ w₂ : List ℕ} {r s : ℕ}
+      → CompletedAs lim ed graph never atom_never output work o₁ w₁ r → CompletedAs lim ed graph (filled never j) (filled atom_never k) output work o₂ w₂ s → (s ≡ r) × (o₂ ≡ o₁) × (w₂ ≡ w₁)
+  filled_told graph never atom_never j k n a {output} {work} short full =
+      let e = filled_answer graph never atom_never j k n a ed (length output) (length work) in
+      let same = filled_leaves graph never atom_never j k n a (ap (λ (x : Answer). x.number) e) short.leaves full.leaves in
+      (full.told.0 ∙ ap (code_of lim) e ∙ sym short.told.0, same.0, same.1)
 
   pub needed_told : {o : Outcome} {graph work work' : List ℕ} {r : ℕ} → o ≡ outcome ed graph work → work' ≡ work_after ed graph work
       → ((yes : Bool) → o ≡ loops yes → (yes ≡ true) ↔ ClosedWalk (theory_of graph)) → NeedTells lim o r → Needed lim ed graph work work' r

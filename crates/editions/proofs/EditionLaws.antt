@@ -20,7 +20,7 @@ use Rattle.refusals.specs.Refusals.{graph_rows, graph_answer, absorbed_row}
 use Rattle.refusals.proofs.RowLaws.{rows_append}
 use Rattle.refusals.proofs.AcceptedLaws.{accepted}
 use Rattle.cycles.specs.Outcome.{Outcome, loops, refused, outcome}
-use Rattle.founded.specs.Answers.{call_of, bad_mask, bad_lengths, bad_work, call_answer, prepare_answer, complete_answer, output_left, Prepares, Completes}
+use Rattle.founded.specs.Answers.{call_of, bad_mask, bad_output, bad_lengths, bad_work, call_answer, prepare_answer, complete_answer, output_left, Prepares, Completes}
 use Rattle.founded.specs.declared.CallError.{CallError}
 use Rattle.std.specs.Prelude.{Result}
 
@@ -74,12 +74,12 @@ module _ (ed fd : Edition) (x y : List ℕ) (first : graph_answer ed x ≡ accep
     pub prepared_equal : (output o₁ v₁ o₂ w₂ : List ℕ) (r s : Result (Unit {0}) CallError) → Prepares ed x output v o₁ v₁ r → Prepares fd y output w o₂ w₂ s → (call_of r ≡ call_of s) × (o₁ ≡ o₂)
     unfolding prepare_answer
     prepared_equal output o₁ v₁ o₂ w₂ r s p q =
-        let same : call_of r ≡ call_of s = p.answer ∙ rows (ap (λ (k : ℕ). bad_mask k (length output)) atoms) ∙ sym q.answer in
+        let same : call_of r ≡ call_of s = p.answer ∙ rows (ap (λ (k : ℕ). bad_output k (length output)) atoms) ∙ sym q.answer in
         (same, p.leaves.output_after ∙ written (ap (λ (a : Answer). a.number) same) (fun_ext (cyclic_alike (theory_of x) (theory_of y) one ok fine)) output ∙ sym q.leaves.output_after)
 
     lengths_equal : (n a o : ℕ) → bad_lengths x n a o ≡ bad_lengths y n a o
     unfolding bad_lengths
-    lengths_equal n a o = ap₂ (λ (k j : ℕ). bad_mask k n || (bad_mask j a || bad_mask j o)) nodes atoms
+    lengths_equal n a o = ap₂ (λ (k j : ℕ). bad_mask k n || (bad_mask j a || bad_output j o)) nodes atoms
 
     pub completed_equal : (never atom_never output o₁ v₁ o₂ w₂ : List ℕ) (r s : Result (Unit {0}) CallError) → Completes ed x never atom_never output v o₁ v₁ r → Completes fd y never atom_never output w o₂ w₂ s
         → (call_of r ≡ call_of s) × (o₁ ≡ o₂)

@@ -22,12 +22,12 @@ use Rattle.refusals.specs.Refusals.{graph_rows, graph_answer, absorbed_row}
 use Rattle.refusals.proofs.RowLaws.{rows_append}
 use Rattle.founded.specs.declared.CallError.{CallError}
 use Rattle.std.specs.Prelude.{Result, Ok}
-use Rattle.founded.specs.Answers.{call_of, bad_mask, bad_lengths, bad_work, prepare_answer, complete_answer, Prepares, Completes}
+use Rattle.founded.specs.Answers.{call_of, bad_mask, bad_output, bad_lengths, bad_work, prepare_answer, complete_answer, Prepares, Completes}
 use Rattle.founded.proofs.OutcomeLaws.{Answered}
 use Rattle.founded.proofs.OutputLaws.{cyclic_list, missing_list}
 
 pub prepares : {ed : Edition} {ws output work output' work' : List ℕ} {r : Result (Unit {0}) CallError}
-    → Answered ed ws (bad_mask (get_or ws 1 0) (length output)) (bad_work ed ws (length work)) (cyclic (theory_of ws)) output work output' work' (call_of r)
+    → Answered ed ws (bad_output (get_or ws 1 0) (length output)) (bad_work ed ws (length work)) (cyclic (theory_of ws)) output work output' work' (call_of r)
     → ((call_of r).number ≡ 0 → r ≡ Ok (tt {0})) → Prepares ed ws output work output' work' r
 unfolding prepare_answer
 prepares {ws = ws} {r = r} h d = record {
@@ -58,15 +58,15 @@ completes {ws = ws} {never = never} {atom_never = atom_never} {r = r} h d = reco
 pub not_zero : {A : Type 0} {n : ℕ} → eqb n 0 ≡ false → n ≡ 0 → A
 not_zero {n = n} e q = clash (eq-eqb n 0 q) e
 
--- the test of a mask over as many numbers as a count of the header
-pub mask_tested : {r t : Bool} {count k : ℕ} (words : ℕ) → r ≡ bad_mask count words → count ≡ k → r ≡ t → bad_mask k words ≡ t
-mask_tested words e q h = rw (← q) (sym e ∙ h)
+-- the test of an output over as many numbers as a count of the header
+pub output_tested : {r t : Bool} {count k : ℕ} (words : ℕ) → r ≡ bad_output count words → count ≡ k → r ≡ t → bad_output k words ≡ t
+output_tested words e q h = rw (← q) (sym e ∙ h)
 
-pub mask_fits : (count words : ℕ) → bad_mask count words ≡ false → words ≡ words_of count
-mask_fits count words e = eqb-true words (words_of count) (not-false _ e)
+pub output_words : (count words : ℕ) → bad_output count words ≡ false → words ≡ words_of count
+output_words count words e = eqb-true words (words_of count) (not-false _ e)
 
 -- the output is one of the three
-pub output_fits : (ws : List ℕ) (n a o : ℕ) → bad_lengths ws n a o ≡ false → bad_mask (get_or ws 1 0) o ≡ false
+pub output_fits : (ws : List ℕ) (n a o : ℕ) → bad_lengths ws n a o ≡ false → bad_output (get_or ws 1 0) o ≡ false
 unfolding bad_lengths
 output_fits ws n a o e = is_false _ (λ t. clash (or_right (bad_mask (get_or ws 2 0) n) _ (or_right (bad_mask (get_or ws 1 0) a) _ t)) e)
 

@@ -4,3 +4,4 @@ pub mod CallLaws
 pub mod DemandLaws
 pub mod PlaceLaws
 pub mod SameLaws
+pub mod ShortLaws

@@ -11,7 +11,7 @@ use Rattle.refusals.specs.Answer.{accept, refuse_if, refuse_first, or_next, firs
 use Rattle.refusals.specs.Refusals.{graph_rows, graph_answer, absorbed_row}
 use Rattle.refusals.proofs.RowLaws.{rows_append}
 use Rattle.refusals.proofs.PlaceLaws.{if_place, first_place, or_place, graph_place}
-use Rattle.founded.specs.Answers.{bad_mask, bad_lengths, bad_work, call_answer, prepare_answer, complete_answer}
+use Rattle.founded.specs.Answers.{bad_output, bad_lengths, bad_work, call_answer, prepare_answer, complete_answer}
 
 module _ {lim : ℕ} (some : 0 < lim) (ed : Edition) (ws : List ℕ) (nodes : get_or ws 2 0 < lim) (producers : get_or ws 3 0 < lim) (links : get_or ws 4 0 < lim) where
   call_place : (lengths area : Bool) → (call_answer ed ws lengths area).place < lim
@@ -27,7 +27,7 @@ module _ {lim : ℕ} (some : 0 < lim) (ed : Edition) (ws : List ℕ) (nodes : ge
 
   pub prepared_place : (o w : ℕ) → (prepare_answer ed ws o w).place < lim
   unfolding prepare_answer
-  prepared_place o w = call_place (bad_mask (get_or ws 1 0) o) (bad_work ed ws w)
+  prepared_place o w = call_place (bad_output (get_or ws 1 0) o) (bad_work ed ws w)
 
   pub completed_place : (n a o w : ℕ) → (complete_answer ed ws n a o w).place < lim
   unfolding complete_answer

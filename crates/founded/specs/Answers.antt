@@ -1,6 +1,6 @@
 -- What preparation and pass answer and leave (document 01, "Where a call is turned away"): number and place of each case, the rows of each call,
 -- and for each call what it leaves after an answer, and its promise.
-use Rattle.std.specs.Prelude.{◌≡◌, ◌↔◌, Bool, not, ◌||◌, cond, List, [], ◌∷◌, ◌++◌, ℕ, ◌<◌, eqb, length, get_or, replicate, Result, Ok, Err}
+use Rattle.std.specs.Prelude.{◌≡◌, ◌↔◌, Bool, not, ◌||◌, cond, List, [], ◌∷◌, ◌++◌, ℕ, ◌<◌, eqb, ltb, length, get_or, replicate, Result, Ok, Err}
 use Rattle.theory.specs.Sets.{Set, Is}
 use Rattle.theory.specs.Words.{theory_of, bit_at}
 use Rattle.theory.specs.Accepted.{Edition, area_of}
@@ -24,12 +24,15 @@ abbrev pub call_of : Result (Unit {0}) CallError → Answer
 call_of (Ok u) = accept
 call_of (Err e) = turned_as e
 
--- 10: another length than that of a mask over so many numbers; the output is such a mask too
+-- 10: a mask over so many numbers may be shorter than its full length, and not longer; an output has exactly that length
 abbrev pub bad_mask : (count words : ℕ) → Bool
-bad_mask count words = not (eqb words (words_of count))
+bad_mask count words = ltb (words_of count) words
+
+abbrev pub bad_output : (count words : ℕ) → Bool
+bad_output count words = not (eqb words (words_of count))
 
 unfoldable pub bad_lengths : List ℕ → (n a o : ℕ) → Bool
-bad_lengths ws n a o = bad_mask (get_or ws 2 0) n || (bad_mask (get_or ws 1 0) a || bad_mask (get_or ws 1 0) o)
+bad_lengths ws n a o = bad_mask (get_or ws 2 0) n || (bad_mask (get_or ws 1 0) a || bad_output (get_or ws 1 0) o)
 
 -- 11: another length of the work area
 abbrev pub bad_work : Edition → List ℕ → ℕ → Bool
@@ -41,7 +44,7 @@ call_answer ed ws lengths area = first_refusal (graph_rows ed ws ++ (refuse_if 1
 
 -- n, a, o, w: the lengths of node mask, atom mask, output and work area
 unfoldable pub prepare_answer : Edition → List ℕ → (o w : ℕ) → Answer
-prepare_answer ed ws o w = call_answer ed ws (bad_mask (get_or ws 1 0) o) (bad_work ed ws w)
+prepare_answer ed ws o w = call_answer ed ws (bad_output (get_or ws 1 0) o) (bad_work ed ws w)
 
 unfoldable pub complete_answer : Edition → List ℕ → (n a o w : ℕ) → Answer
 complete_answer ed ws n a o w = call_answer ed ws (bad_lengths ws n a o) (bad_work ed ws w)

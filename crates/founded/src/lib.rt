@@ -8,7 +8,7 @@ ghost use Rattle.mask.specs.Mask.{words_of, pack};
 ghost use Rattle.refusals.specs.Answer.{accept};
 ghost use Rattle.refusals.specs.Refusals.{graph_answer};
 ghost use Rattle.founded.specs.declared.CallError.TheVariants.{Refused};
-ghost use Rattle.founded.specs.Answers.{bad_mask, bad_lengths, Prepares, Completes};
+ghost use Rattle.founded.specs.Answers.{bad_mask, bad_output, bad_lengths, Prepares, Completes};
 
 use area::length::Area;
 use refusals::Refusal;
@@ -32,9 +32,16 @@ impl From<Refusal> for CallError {
     }
 }
 
-// Whether a mask, or an output, has another length than one over so many numbers.
+// Whether a mask is longer than one over so many numbers. A shorter one is fine: a bit past its end is no cut (`mask::bit`).
 fn bad_mask(count: usize, words: usize) -> bool
     ensures { result ≡ bad_mask count words }
+{
+    mask::words(count) < words
+}
+
+// Whether an output has another length than a mask over so many numbers.
+fn bad_output(count: usize, words: usize) -> bool
+    ensures { result ≡ bad_output count words }
 {
     words != mask::words(count)
 }
@@ -57,7 +64,7 @@ fn prepare_accepted<W: Area>(
     output: &mut [u64],
     work: &mut [W],
 ) -> Result<(), CallError>
-    requires { (graph_answer W.edition (W.numbers graph.now) ≡ accept) × (bad_mask (get_or (W.numbers graph.now) 1 0) (length output.old) ≡ false) × (length (W.numbers work.old) ≡ area_of W.edition (theory_of (W.numbers graph.now))) }
+    requires { (graph_answer W.edition (W.numbers graph.now) ≡ accept) × (bad_output (get_or (W.numbers graph.now) 1 0) (length output.old) ≡ false) × (length (W.numbers work.old) ≡ area_of W.edition (theory_of (W.numbers graph.now))) }
     ensures { Prepares W.edition (W.numbers graph.now) output.old (W.numbers work.old) output.new (W.numbers work.new) result }
 {
     let words = work.len();
@@ -79,7 +86,7 @@ pub fn prepare<W: Area>(graph: &[W], output: &mut [u64], work: &mut [W]) -> Resu
     ensures { Prepares W.edition (W.numbers graph.now) output.old (W.numbers work.old) output.new (W.numbers work.new) result }
 {
     checking::check(graph)?;
-    if bad_mask(graph::atoms(graph), output.len()) {
+    if bad_output(graph::atoms(graph), output.len()) {
         return Err(CallError::Lengths);
     }
     if work.len() != W::area_words(graph) {
@@ -95,7 +102,7 @@ fn bad_lengths<W: Word>(graph: &[W], never: usize, atom_never: usize, output: us
     ensures { result ≡ bad_lengths (W.numbers graph.now) never atom_never output }
 {
     let atoms = graph::atoms(graph);
-    bad_mask(graph::nodes(graph), never) || bad_mask(atoms, atom_never) || bad_mask(atoms, output)
+    bad_mask(graph::nodes(graph), never) || bad_mask(atoms, atom_never) || bad_output(atoms, output)
 }
 
 // The pass after refusals 1 to 11.

@@ -8,7 +8,7 @@ use native.Mathlib.Omega.{arith}
 use lib.Dec.{eqb}
 use lib.ListN.{length, get_or, take, drop, length-take}
 use lib.Seq.{length-take-le}
-use borrow.Author.Tests.{eq-eqb, ne_eqb, eqb-true, eqb-false, not-false}
+use borrow.Author.Tests.{eq-eqb, le-ltb, ne_eqb, eqb-true, eqb-false, not-false}
 use Rattle.std.specs.Prelude.{Result, Ok, Err}
 use Rattle.theory.specs.Sets.{members}
 use Rattle.theory.specs.Words.{theory_of, bit_at}
@@ -39,7 +39,7 @@ pub pass_row : {graph never atom_never output work output' work' : List ℕ} {r 
 unfolding bad_lengths
 pass_row {graph} {never} {atom_never} {output} {work} ready hw done =
     let fit : bad_lengths graph (length never) (length atom_never) (length output) ≡ false =
-    rw (eq-eqb (length never) _ ready.node_words, eq-eqb (length atom_never) _ ready.atom_words, eq-eqb (length output) _ ready.output_words) in
+    rw (le-ltb (words_of (get_or graph 2 0)) (length never) (omega (arith, ready.node_words)), le-ltb (words_of (get_or graph 1 0)) (length atom_never) (omega (arith, ready.atom_words)), eq-eqb (length output) _ ready.output_words) refl in
     sym (last_row ready.accepted fit (work_fits edition1 graph (length work) hw) done)
 
 -- rows 1 to 10 accept, and so the answer is row 12's
