@@ -72,7 +72,7 @@ enum founded_refusal {
     FOUNDED_LENGTHS = 10,  /* the node mask isn't FOUNDED_MASK_WORDS(N) words long, or the atom mask or the output isn't FOUNDED_MASK_WORDS(A) */
     FOUNDED_WORK = 11,     /* the work area is not exactly 32,768 16-bit words; in edition 2 not exactly 16(A + N + P + 1) + 4(leaf entries + head entries)
                               32-bit words */
-    FOUNDED_ABSORBED = 12, /* the body cone holds a node of kind 7. Place: one such node */
+    FOUNDED_ABSORBED = 12, /* the body cone holds a node of kind 7. Place: the first such node */
     FOUNDED_COMES_BACK = 14 /* a chain comes back to one of its own links; given after 6 and before 7. Place: the first node whose leaf chain does, or where none does,
                               the first producer whose head chain does. The code does not say which: it is a node if that node's chain has not ended after K links */
 };

@@ -30,7 +30,7 @@ pub enum Refusal {
     Lengths,
     /// 11: the work area is not exactly 32,768 words; in edition 2 not exactly [`wide::work_words`](crate::wide::work_words).
     Work,
-    /// 12: the body cone holds an absorbed node. One such node.
+    /// 12: the body cone holds an absorbed node. The first such node.
     Absorbed(NodeId),
     /// 14: a chain comes back to one of its own links. The first node whose leaf chain does, or where none does, the first producer whose head chain does. A call's code
     /// does not say which of the two; a walk along the node's chain does.
