@@ -14,7 +14,7 @@ use Rattle.theory.specs.Closure.{Mode, dead, free, single, every}
 use Rattle.theory.specs.Founded.{cyclic, cyclic_cone}
 use Rattle.theory.specs.Words.{theory_of}
 use Rattle.theory.specs.Accepted.{Edition, Accepted}
-use Rattle.theory.specs.Pass.{live, kind_mode, node_mode, pass_mode}
+use Rattle.theory.specs.Pass.{live, kind_mode, node_mode_among, node_mode, pass_mode}
 use Rattle.theory.specs.Starting.{waits}
 use Rattle.theory.proofs.SetLaws.{clash}
 use Rattle.theory.proofs.CountLaws.{sum_one}
@@ -57,7 +57,7 @@ on true false z m p q r = clash q refl
 on false y z m p q r = clash p refl
 
 pub initial_cut : (ws : List ℕ) (never atom_never : Set) (n : ℕ) → Is (never n) → Inactive ≡ initial_at ws never atom_never n
-unfolding node_mode initial_of
+unfolding node_mode_among initial_of
 initial_cut ws never atom_never n h =
     sym (ap (λ (m : Mode). initial_of m (length ((theory_of ws).leaves n))) (off (ltb n (theory_of ws).nodes) (cyclic_cone (theory_of ws) n) (never n) _ h))
 
@@ -88,7 +88,7 @@ module _ {ed : Edition} {ws : List ℕ} (acc : Accepted ed ws) (n : ℕ) where
   pub initial_uncut : Is (cyclic_cone (theory_of ws) n) → (never atom_never : Set) → never n ≡ false → {k : Kind} → k ≡ (theory_of ws).kind n → {starts operand one all : Bool}
       → starts_true k ≡ starts → takes_operand k ≡ operand → waits_for_one k ≡ one → waits_for_all k ≡ all
       → initial_of (by_table starts operand one all (cyclic (theory_of ws) ((theory_of ws).operand n)) (atom_never ((theory_of ws).operand n))) (length ((theory_of ws).leaves n)) ≡ initial_at ws never atom_never n
-  unfolding node_mode theory_of
+  unfolding node_mode_among theory_of
   initial_uncut i never atom_never u e s o q a =
       ap (λ (m : Mode). initial_of m (length ((theory_of ws).leaves n)))
       (sym (on (ltb n (theory_of ws).nodes) (cyclic_cone (theory_of ws) n) (never n) _ (lt-ltb n _ (cone_node i).below) i u

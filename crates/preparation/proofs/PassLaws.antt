@@ -14,7 +14,7 @@ use Rattle.theory.specs.Edges.{vertices, preds}
 use Rattle.theory.specs.Founded.{cyclic, cyclic_cone, founded, missing}
 use Rattle.theory.specs.Closure.{dead, free, single}
 use Rattle.theory.specs.Worklist.{Worklist}
-use Rattle.theory.specs.Pass.{live, stated, atom_mode, pass_mode}
+use Rattle.theory.specs.Pass.{live, stated, atom_mode_among, pass_mode}
 use Rattle.theory.specs.Prefix.{upto}
 use Rattle.theory.proofs.SetLaws.{bool_cases, is_false, clash, and_intro, and_left, and_right, not_true, not_false}
 use Rattle.theory.proofs.CycleLaws.{cyclic_walk}
@@ -138,7 +138,7 @@ module _ {ws : List ℕ} {ed : Edition} (acc : Accepted ed ws) {b : Bases} {w : 
               ((λ y. p.0 (rw bound (list.sound a y))), λ y. run_end acc based₂ u r a (rw bound at (p.1 y)))
 
           mode : (y : Bool) → (cyclic (theory_of ws) a && not (atom_never a)) ≡ y → pass_mode (theory_of ws) (cyclic_cone (theory_of ws)) never atom_never a ≡ live y (cond (stated (theory_of ws) a) free single)
-          unfolding atom_mode
+          unfolding atom_mode_among
           mode y e = mode_atom (theory_of ws) (cyclic_cone (theory_of ws)) never atom_never a low ∙ ap (λ (x : Bool). live x (cond (stated (theory_of ws) a) free single)) e
 
           -- an atom that may be founded waits for one thing, unless it is

@@ -9,7 +9,7 @@ use Rattle.theory.specs.Walks.{reach_step, reached}
 use Rattle.theory.specs.Theory.{joins, absorbed}
 use Rattle.theory.specs.Edges.{occurrences, vertices, body_entries, bodies_below, inputs, preds_by, preds, is_body, is_leaf, cone_step, cone, body_cone}
 use Rattle.theory.specs.Truth.{holds, truth_in, truth, fires}
-use Rattle.theory.specs.Founded.{has_cycle, cyclic, atom_truth, produced, founded_step, founded, missing}
+use Rattle.theory.specs.Founded.{has_cycle, cyclic, atom_truth, produced, founded_step, founded_among, missing_among, founded, missing}
 use Rattle.theory.specs.Words.{kind_of, chain_in, chain, theory_of, bit_at}
 use Rattle.theory.specs.Links.{after, link_after, comes_back}
 use Rattle.theory.specs.Cases.{c1, c2, alone}
@@ -48,5 +48,5 @@ unfolding report_text graph_size graph_of masks_of bad_masks answer in_bytes no_
     any all member filled any_below members sum_below has table_from grow least reach_step reached
     kind_of chain_in chain theory_of bit_at joins absorbed
     occurrences vertices body_entries bodies_below inputs preds_by preds is_body is_leaf cone_step cone body_cone
-    holds truth_in truth fires has_cycle cyclic atom_truth produced founded_step founded missing
+    holds truth_in truth fires has_cycle cyclic atom_truth produced founded_step founded_among missing_among founded missing
 examples = (refl, refl, refl, refl, refl, refl)

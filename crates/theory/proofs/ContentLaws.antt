@@ -11,7 +11,7 @@ use Rattle.theory.specs.Sets.{Is, Set, ◌⊆◌, everyone, Mem, filled, members
 use Rattle.theory.specs.Theory.{Theory, WellFormed, Kind, False, Atom, And, Or, Opaque, Absorbed, joins, absorbed}
 use Rattle.theory.specs.Edges.{vertices, body_entries, bodies_below, inputs, preds_by, preds, body_cone, absorbed_node}
 use Rattle.theory.specs.Truth.{fires}
-use Rattle.theory.specs.Founded.{has_cycle, cyclic, atom_truth, founded, missing}
+use Rattle.theory.specs.Founded.{has_cycle, cyclic, atom_truth, missing_among, founded, missing}
 use Rattle.theory.specs.Words.{kind_of, theory_of}
 use Rattle.theory.specs.Cases.{told_by, outcome}
 use Rattle.theory.specs.Alike.{Alike}
@@ -106,7 +106,7 @@ module _ (th other : Theory) (e : Alike th other) where
       where
         pass : (s : Set) → ((b : ℕ) → Is (s b) → Is (founded other never atom_never b)) → (a : ℕ) → Derived th never atom_never s a → Is (founded other never atom_never a)
         pass s ih a d =
-            founded_closed other never atom_never a d.by (sym (cyclic_alike a) ∙ d.on_cycle) d.uncut (rw (sym e.producers) d.by_low) (rw (sym (e.head_lists d.by d.by_low)) d.head)
+            founded_closed other never atom_never a d.by (sym (cyclic_alike a) ∙ d.is_marked) d.uncut (rw (sym e.producers) d.by_low) (rw (sym (e.head_lists d.by d.by_low)) d.head)
             (ap (fires other never _) (sym (e.bodies d.by d.by_low))
             ∙ ap (λ (c : Set). fires other never (atom_truth c atom_never (founded other never atom_never)) (th.body d.by)) (sym (fun_ext cyclic_alike))
             ∙ sym (fires_alike th other ok nodes_alike never _ d.by d.by_low)
@@ -123,7 +123,7 @@ module _ (th other : Theory) (e : Alike th other) (ok : WellFormed th) (fine : W
   founded_alike never atom_never a = same_test _ _ (founded_inside th other e ok fine never atom_never a) (founded_inside other th (alike_sym th other e) fine ok never atom_never a)
 
   pub missing_alike : (never atom_never : Set) (a : ℕ) → missing th never atom_never a ≡ missing other never atom_never a
-  unfolding missing
+  unfolding missing founded missing_among
   missing_alike never atom_never a = rw (cyclic_alike th other e ok fine a, founded_alike never atom_never a) refl
 
   pub absorbed_alike : (n : ℕ) → absorbed_node th n ≡ absorbed_node other n

@@ -56,7 +56,7 @@ module _ (th : Theory) (ok : WellFormed th) (never other atom_never atom_other :
     where
       pass : (s : Set) → ((b : ℕ) → Is (s b) → Is (founded th other atom_other b)) → (a : ℕ) → Derived th never atom_never s a → Is (founded th other atom_other a)
       pass s ih a d =
-          founded_closed th other atom_other a d.by d.on_cycle (sym (same.atoms a ((cyclic_walk th a).0 d.on_cycle).0) ∙ d.uncut) d.by_low d.head
+          founded_closed th other atom_other a d.by d.is_marked (sym (same.atoms a ((cyclic_walk th a).0 d.is_marked).0) ∙ d.uncut) d.by_low d.head
           (sym (fires_cuts _ _ (atoms_cuts (founded th other atom_other)) d.by d.by_low)
           ∙ fires_mono th never _ _ (atom_truth_mono (cyclic th) atom_never s (founded th other atom_other) ih) (th.body d.by) d.fired)
 

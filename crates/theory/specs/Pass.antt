@@ -11,8 +11,8 @@ unfoldable pub live : Bool → Mode → Mode
 live true m = m
 live false m = dead
 
--- an uncut node, by its kind and whether its atom is cyclic and cut
-unfoldable pub kind_mode : Kind → (cyclic cut : Bool) → Mode
+-- an uncut node, by its kind and whether its atom is marked and cut
+unfoldable pub kind_mode : Kind → (marked cut : Bool) → Mode
 kind_mode False m c = dead
 kind_mode Atom true c = single
 kind_mode Atom false true = dead
@@ -27,21 +27,39 @@ module _ (th : Theory) where
   unfoldable pub stated : Set
   stated a = any_below th.producers (λ p. eqb (th.body p) 0 && member a (th.heads p))
 
-  module _ (cone never atom_never : Set) where
-    unfoldable pub atom_mode : ℕ → Mode
-    atom_mode a = live (cyclic th a && not (atom_never a)) (cond (stated a) free single)
+  -- with any set of atoms as the marked ones
+  module _ (marked cone never atom_never : Set) where
+    unfoldable pub atom_mode_among : ℕ → Mode
+    atom_mode_among a = live (marked a && not (atom_never a)) (cond (stated a) free single)
 
-    unfoldable pub node_mode : ℕ → Mode
-    node_mode n = live (ltb n th.nodes && cone n && not (never n)) (kind_mode (th.kind n) (cyclic th (th.operand n)) (atom_never (th.operand n)))
+    unfoldable pub node_mode_among : ℕ → Mode
+    node_mode_among n = live (ltb n th.nodes && cone n && not (never n)) (kind_mode (th.kind n) (marked (th.operand n)) (atom_never (th.operand n)))
 
-    unfoldable pub pass_mode : ℕ → Mode
-    pass_mode v = cond (ltb v th.atoms) (atom_mode v) (node_mode (v - th.atoms))
+    unfoldable pub pass_mode_among : ℕ → Mode
+    pass_mode_among v = cond (ltb v th.atoms) (atom_mode_among v) (node_mode_among (v - th.atoms))
 
     -- what the pass finds
-    abbrev pub passed : Set
-    passed v = closure (vertices th) pass_mode (preds th everyone) v
+    abbrev pub passed_among : Set
+    passed_among v = closure (vertices th) pass_mode_among (preds th everyone) v
 
-    -- the cone holds whatever can come to matter: the bodies of producers with a cyclic head, and leaves of what it holds
-    pub record Enough : Type 0 where
-      pub bodies : (p n a : ℕ) → p < th.producers → Mem a (th.heads p) → Is (cyclic th a) → th.body p ≡ suc n → Is (cone n)
+    -- the cone holds whatever can come to matter: the bodies of producers with a marked head, and leaves of what it holds
+    pub record EnoughAmong : Type 0 where
+      pub bodies : (p n a : ℕ) → p < th.producers → Mem a (th.heads p) → Is (marked a) → th.body p ≡ suc n → Is (cone n)
       pub leaves : (n m : ℕ) → n < th.nodes → Is (cone n) → Is (joins (th.kind n)) → Mem m (th.leaves n) → Is (cone m)
+
+  -- the cyclic atoms are marked
+  module _ (cone never atom_never : Set) where
+    abbrev pub atom_mode : ℕ → Mode
+    atom_mode a = atom_mode_among (cyclic th) cone never atom_never a
+
+    abbrev pub node_mode : ℕ → Mode
+    node_mode n = node_mode_among (cyclic th) cone never atom_never n
+
+    abbrev pub pass_mode : ℕ → Mode
+    pass_mode v = pass_mode_among (cyclic th) cone never atom_never v
+
+    abbrev pub passed : Set
+    passed v = passed_among (cyclic th) cone never atom_never v
+
+    abbrev pub Enough : Type 0
+    Enough = EnoughAmong (cyclic th) cone never atom_never
