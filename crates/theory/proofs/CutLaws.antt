@@ -1,79 +1,101 @@
--- Cuts past the last number play no part (document 01: "Bits past the last number are ignored"): cuts that agree on all nodes and all atoms give the same founded atoms and the same missing list
--- (`founded_cuts`, `missing_cuts`).
-use mathlib.Core.Path.{◌≡◌, refl, sym, ap, ap₂, ◌∙◌}
-use mathlib.Core.Bool.{Bool, not, ◌&&◌, ◌||◌}
-use mathlib.Core.List.{List}
-use Prim.Native.Nat.{ℕ, zero, suc, ◌<◌}
-use native.Mathlib.Omega.{arith}
+-- What more cuts do (request 7): they never make another atom founded (`more_cuts`), and cutting a part of the missing list removes exactly those atoms from it and adds none (`cut_missing`).
+-- Cuts past the last number play no part (document 01: "Bits past the last number are ignored"): cuts that agree on all nodes and all atoms give the same missing list (`missing_cuts`).
+-- The first two with any set of marked atoms: `among_more_cuts`, `among_cut`.
+use mathlib.Core.Path.{◌≡◌, sym, ◌∙◌}
+use mathlib.Core.Logic.{⊎_elim, ◌↔◌}
+use mathlib.Core.Bool.{false, ◌||◌}
+use Prim.Native.Nat.{ℕ, ◌<◌}
 use Rattle.theory.specs.Sets.{Is, Set, ◌⊆◌}
-use Rattle.theory.specs.Theory.{Theory, WellFormed, Kind, False, Atom, And, Or, Opaque, Absorbed}
-use Rattle.theory.specs.Truth.{holds, truth_in, truth, fires}
-use Rattle.theory.specs.Founded.{cyclic, atom_truth, founded, missing}
-use Rattle.theory.proofs.SetLaws.{same_test}
-use Rattle.theory.proofs.TruthLaws.{holds_ext, fires_mono}
+use Rattle.theory.specs.Theory.{Theory, WellFormed}
+use Rattle.theory.specs.Founded.{cyclic, founded_among, missing_among, founded, missing}
+use Rattle.theory.proofs.SetLaws.{is_false, same_test, clash, or_left, or_cases, neither, neither_left, neither_right}
+use Rattle.theory.proofs.TruthLaws.{fires_less}
 use Rattle.theory.proofs.CycleLaws.{cyclic_walk}
-use Rattle.theory.proofs.FoundedLaws.{Derived, atom_truth_mono, founded_closed, founded_induct, missing_parts}
+use Rattle.theory.proofs.FoundedLaws.{atom_carries, among_closed, among_least, among_parts, missing_parts}
 
--- of a node that names no atom the truth of its operand plays no part
-operand_ext : (k : Kind) (v w : Bool) (s : Set) (l : List ℕ) → (k ≡ Atom → v ≡ w) → holds k v s l ≡ holds k w s l
-unfolding holds
-operand_ext False v w s l h = refl
-operand_ext Atom v w s l h = h refl
-operand_ext And v w s l h = refl
-operand_ext Or v w s l h = refl
-operand_ext Opaque v w s l h = refl
-operand_ext Absorbed v w s l h = refl
+-- each member of s below n is one of t
+abbrev pub Within : ℕ → Set → Set → Type 0
+Within n s t = (v : ℕ) → v < n → Is (s v) → Is (t v)
+
+-- ---- any set of marked atoms
+
+module _ (th : Theory) (ok : WellFormed th) (marked : Set) where
+  pub among_more_cuts : (never atom_never never′ atom_never′ : Set) → Within th.nodes never never′ → Within th.atoms atom_never atom_never′
+      → founded_among th marked never′ atom_never′ ⊆ founded_among th marked never atom_never
+  among_more_cuts never atom_never never′ atom_never′ hn ha =
+      among_least th marked never′ atom_never′ (founded_among th marked never atom_never)
+      (λ a p l m c low i f.
+      among_closed th marked never atom_never a p l m (is_false (atom_never a) (λ z. clash (ha a l z) c)) low i
+      (fires_less th ok never never′ _ _ hn (λ b k. atom_carries marked atom_never′ atom_never _ _ b (λ e. ha b k) (λ q. q)) p low f))
+
+  -- cutting a part x of the list
+  module _ (bounded : (a : ℕ) → Is (marked a) → a < th.atoms) (never atom_never x more : Set) (part : x ⊆ missing_among th marked never atom_never)
+      (cut : (a : ℕ) → a < th.atoms → more a ≡ atom_never a || x a) where
+    fewer : founded_among th marked never more ⊆ founded_among th marked never atom_never
+    fewer = among_more_cuts never atom_never never more (λ n l q. q) (λ a l q. cut a l ∙ or_left (atom_never a) (x a) q)
+
+    -- an uncut atom that is not on the list stays uncut
+    stays : (a : ℕ) → a < th.atoms → (Is (missing_among th marked never atom_never a) → ⊥) → atom_never a ≡ false → more a ≡ false
+    stays a l out e = cut a l ∙ neither (atom_never a) (x a) e (is_false (x a) (λ i. out (part a i)))
+
+    -- an atom off the list is cut only if it was
+    only : (a : ℕ) → a < th.atoms → marked a ≡ false → Is (more a) → Is (atom_never a)
+    only a l e z = ⊎_elim (λ q. q) (λ i. clash ((among_parts th marked never atom_never a).0 (part a i)).0 e) (or_cases (atom_never a) (x a) (sym (cut a l) ∙ z))
+
+    same_founded : founded_among th marked never atom_never ⊆ founded_among th marked never more
+    same_founded =
+        among_least th marked never atom_never (founded_among th marked never more)
+        (λ a p l m c low i f.
+        let was = among_closed th marked never atom_never a p l m c low i
+            (fires_less th ok never never _ _ (λ n k q. q) (λ b k. atom_carries marked atom_never atom_never _ _ b (λ e z. z) (fewer b)) p low f) in
+        among_closed th marked never more a p l m (stays a l (λ z. clash was ((among_parts th marked never atom_never a).0 z).2) c) low i
+        (fires_less th ok never never _ _ (λ n k q. q)
+        (λ b k. atom_carries marked atom_never more _ _ b (only b k) (λ q. q)) p low f))
+
+    pub among_cut : (a : ℕ) → Is (missing_among th marked never more a) ↔ (Is (missing_among th marked never atom_never a) × (x a ≡ false))
+    among_cut a = (there, back)
+      where
+        there : Is (missing_among th marked never more a) → Is (missing_among th marked never atom_never a) × (x a ≡ false)
+        there p =
+            let r = (among_parts th marked never more a).0 p in
+            let free = sym (cut a (bounded a r.0)) ∙ r.1 in
+            ((among_parts th marked never atom_never a).1 (r.0, neither_left (atom_never a) (x a) free, is_false _ (λ i. clash (same_founded a i) r.2)), neither_right (atom_never a) (x a) free)
+
+        back : Is (missing_among th marked never atom_never a) × (x a ≡ false) → Is (missing_among th marked never more a)
+        back q =
+            let r = (among_parts th marked never atom_never a).0 q.0 in
+            (among_parts th marked never more a).1 (r.0, cut a (bounded a r.0) ∙ neither (atom_never a) (x a) r.1 q.1, is_false _ (λ i. clash (fewer a i) r.2))
+
+-- ---- the cyclic atoms
+
+module _ (th : Theory) (ok : WellFormed th) where
+  low : (a : ℕ) → Is (cyclic th a) → a < th.atoms
+  low a c = ((cyclic_walk th a).0 c).0
+
+  pub more_cuts : (never atom_never never′ atom_never′ : Set) → Within th.nodes never never′ → Within th.atoms atom_never atom_never′ → founded th never′ atom_never′ ⊆ founded th never atom_never
+  unfolding founded
+  more_cuts = among_more_cuts th ok (cyclic th)
+
+  pub cut_missing : (never atom_never x more : Set) → x ⊆ missing th never atom_never → ((a : ℕ) → a < th.atoms → more a ≡ atom_never a || x a)
+      → (a : ℕ) → Is (missing th never more a) ↔ (Is (missing th never atom_never a) × (x a ≡ false))
+  unfolding missing
+  cut_missing = among_cut th ok (cyclic th) low
 
 -- the same cuts of all nodes, and of all atoms
 pub record SameCuts (th : Theory) (never other atom_never atom_other : Set) : Type 0 where
   pub nodes : (n : ℕ) → n < th.nodes → never n ≡ other n
   pub atoms : (a : ℕ) → a < th.atoms → atom_never a ≡ atom_other a
 
-module _ (th : Theory) (ok : WellFormed th) (never other atom_never atom_other : Set) (same : SameCuts th never other atom_never atom_other) where
-  module _ (u w : Set) (h : (a : ℕ) → a < th.atoms → u a ≡ w a) where
-    truth_in_cuts : (k n : ℕ) → n < th.nodes → truth_in th never u k n ≡ truth_in th other w k n
-    unfolding truth_in
-    truth_in_cuts zero n l = refl
-    truth_in_cuts (suc k) n l =
-        ap₂ (λ (c b : Bool). not c && b) (same.nodes n l)
-        (holds_ext (th.kind n) _ _ (λ m. truth_in th other w k m) (th.leaves n) (λ m i. let q = ok.leaf_low n m l i in truth_in_cuts k m (omega arith))
-        ∙ operand_ext (th.kind n) _ _ _ (th.leaves n) (λ e. h (th.operand n) (ok.operand_low n l e)))
+missing_inside : (th : Theory) → WellFormed th → (never other atom_never atom_other : Set) → SameCuts th never other atom_never atom_other → missing th never atom_never ⊆ missing th other atom_other
+missing_inside th ok never other atom_never atom_other same a m =
+    let r = (missing_parts th never atom_never a).0 m in
+    (missing_parts th other atom_other a).1 (
+      r.0,
+      sym (same.atoms a (low th ok a r.0)) ∙ r.1,
+      is_false _ (λ i. clash (more_cuts th ok never atom_never other atom_other (λ n l q. sym (same.nodes n l) ∙ q) (λ b l q. sym (same.atoms b l) ∙ q) a i) r.2),
+    )
 
-    fires_cuts : (p : ℕ) → p < th.producers → fires th never u (th.body p) ≡ fires th other w (th.body p)
-    unfolding fires truth
-    fires_cuts p l = go (th.body p) refl
-      where
-        go : (k : ℕ) → th.body p ≡ k → fires th never u k ≡ fires th other w k
-        go zero e = refl
-        go (suc n) e = truth_in_cuts (suc n) n (ok.body_low p n l e)
-
-  atoms_cuts : (s : Set) (a : ℕ) → a < th.atoms → atom_truth (cyclic th) atom_never s a ≡ atom_truth (cyclic th) atom_other s a
-  unfolding atom_truth
-  atoms_cuts s a l = ap (λ (c : Bool). cyclic th a && s a || not (cyclic th a) && not c) (same.atoms a l)
-
-  founded_inside : founded th never atom_never ⊆ founded th other atom_other
-  founded_inside = founded_induct th never atom_never (λ a. Is (founded th other atom_other a)) pass
-    where
-      pass : (s : Set) → ((b : ℕ) → Is (s b) → Is (founded th other atom_other b)) → (a : ℕ) → Derived th never atom_never s a → Is (founded th other atom_other a)
-      pass s ih a d =
-          founded_closed th other atom_other a d.by d.is_marked (sym (same.atoms a ((cyclic_walk th a).0 d.is_marked).0) ∙ d.uncut) d.by_low d.head
-          (sym (fires_cuts _ _ (atoms_cuts (founded th other atom_other)) d.by d.by_low)
-          ∙ fires_mono th never _ _ (atom_truth_mono (cyclic th) atom_never s (founded th other atom_other) ih) (th.body d.by) d.fired)
-
-  flipped : SameCuts th other never atom_other atom_never
-  flipped = record { nodes = λ n l. sym (same.nodes n l); atoms = λ a l. sym (same.atoms a l) }
-
-module _ (th : Theory) (ok : WellFormed th) (never other atom_never atom_other : Set) (same : SameCuts th never other atom_never atom_other) where
-  pub founded_cuts : (a : ℕ) → founded th never atom_never a ≡ founded th other atom_other a
-  founded_cuts a =
-      same_test _ _ (founded_inside th ok never other atom_never atom_other same a)
-      (founded_inside th ok other never atom_other atom_never (flipped th ok never other atom_never atom_other same) a)
-
-  pub missing_cuts : (a : ℕ) → missing th never atom_never a ≡ missing th other atom_other a
-  missing_cuts a = same_test _ _
-      (λ m. let r = (missing_parts th never atom_never a).0 m in
-      let l = ((cyclic_walk th a).0 r.0).0 in
-      (missing_parts th other atom_other a).1 (r.0, sym (same.atoms a l) ∙ r.1, sym (founded_cuts a) ∙ r.2))
-      (λ m. let r = (missing_parts th other atom_other a).0 m in
-      let l = ((cyclic_walk th a).0 r.0).0 in
-      (missing_parts th never atom_never a).1 (r.0, same.atoms a l ∙ r.1, founded_cuts a ∙ r.2))
+pub missing_cuts : (th : Theory) → WellFormed th → (never other atom_never atom_other : Set) → SameCuts th never other atom_never atom_other → (a : ℕ) → missing th never atom_never a ≡ missing th other atom_other a
+missing_cuts th ok never other atom_never atom_other same a =
+    same_test _ _ (missing_inside th ok never other atom_never atom_other same a)
+    (missing_inside th ok other never atom_other atom_never (record { nodes = λ n l. sym (same.nodes n l); atoms = λ b l. sym (same.atoms b l) }) a)

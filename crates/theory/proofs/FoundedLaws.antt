@@ -10,19 +10,25 @@ use Rattle.theory.specs.Least.{has, least}
 use Rattle.theory.specs.Theory.{Theory}
 use Rattle.theory.specs.Truth.{fires}
 use Rattle.theory.specs.Founded.{cyclic, atom_truth, produced, founded_step, founded_among, missing_among, founded, missing}
-use Rattle.theory.proofs.SetLaws.{mem_member, member_mem, below_found, below_holds, and_intro, and_left, and_right, or_cases, or_left, or_right, not_true, not_false}
+use Rattle.theory.proofs.SetLaws.{is_false, clash, mem_member, member_mem, below_found, below_holds, and_intro, and_left, and_right, or_cases, or_left, or_right, not_true, not_false}
 use Rattle.theory.proofs.LeastLaws.{least_induct, least_closed}
 use Rattle.theory.proofs.TruthLaws.{fires_mono}
 use Rattle.theory.proofs.CycleLaws.{cyclic_walk}
 
+-- an Atom that is true stays so if its atom is founded where it was, and, unless it is marked, cut only where it was
+pub atom_carries : (c cut cut′ s t : Set) (a : ℕ) → (c a ≡ false → Is (cut′ a) → Is (cut a)) → (Is (s a) → Is (t a)) → Is (atom_truth c cut s a) → Is (atom_truth c cut′ t a)
+unfolding atom_truth
+atom_carries c cut cut′ s t a f h p = go (or_cases (c a && s a) (not (c a) && not (cut a)) p)
+  where
+    go : Is (c a && s a) ⊎ Is (not (c a) && not (cut a)) → Is (c a && t a || not (c a) && not (cut′ a))
+    go (inl q) = or_left (c a && t a) _ (and_intro (and_left (c a) (s a) q) (h (and_right (c a) (s a) q)))
+    go (inr q) =
+        let off = and_left (not (c a)) (not (cut a)) q in
+        or_right (c a && t a) _ (and_intro off (not_false (cut′ a) (is_false (cut′ a) (λ z. clash (f (not_true (c a) off) z) (not_true (cut a) (and_right (not (c a)) (not (cut a)) q))))))
+
 -- more founded atoms, more true ones
 pub atom_truth_mono : (c cut s t : Set) → s ⊆ t → atom_truth c cut s ⊆ atom_truth c cut t
-unfolding atom_truth
-atom_truth_mono c cut s t h a p = go (or_cases (c a && s a) (not (c a) && not (cut a)) p)
-  where
-    go : Is (c a && s a) ⊎ Is (not (c a) && not (cut a)) → Is (c a && t a || not (c a) && not (cut a))
-    go (inl q) = or_left (c a && t a) _ (and_intro (and_left (c a) (s a) q) (h a (and_right (c a) (s a) q)))
-    go (inr q) = or_right (c a && t a) _ q
+atom_truth_mono c cut s t h a = atom_carries c cut cut s t a (λ e z. z) (h a)
 
 module _ (th : Theory) (never : Set) where
   pub produced_by : (atom : Set) (a : ℕ) → Is (produced th never atom a) ↔ ((p : ℕ) × (p < th.producers) × Mem a (th.heads p) × Is (fires th never atom (th.body p)))

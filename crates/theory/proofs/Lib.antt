@@ -27,3 +27,4 @@ pub mod ClosedLaws
 pub mod AlikeLaws
 pub mod ContentLaws
 pub mod CutLaws
+pub mod LoopLaws

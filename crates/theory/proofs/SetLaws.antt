@@ -42,6 +42,18 @@ pub or_cases : (a b : Bool) → Is (a || b) → Is a ⊎ Is b
 or_cases true b p = inl refl
 or_cases false b p = inr p
 
+pub neither : (a b : Bool) → a ≡ false → b ≡ false → a || b ≡ false
+neither true b p q = p
+neither false b p q = q
+
+pub neither_left : (a b : Bool) → a || b ≡ false → a ≡ false
+neither_left true b p = p
+neither_left false b p = refl
+
+pub neither_right : (a b : Bool) → a || b ≡ false → b ≡ false
+neither_right true b p = clash refl p
+neither_right false b p = p
+
 pub or_none : (a : Bool) → a || false ≡ a
 or_none true = refl
 or_none false = refl

@@ -1,5 +1,5 @@
 -- Truth grows with the truth of the atoms (`truth_mono`, `fires_mono`), and where leaves are below their node it is the list under "Pass", read
--- line by line (`truth_step`).
+-- line by line (`truth_step`). There it falls with more cuts, and only cuts of nodes and truth of atoms matter (`fires_less`).
 use mathlib.Core.Path.{◌≡◌, refl, ap, ap₂}
 use mathlib.Core.Bool.{Bool, not, ◌&&◌, ◌||◌}
 use mathlib.Core.List.Memᴰ
@@ -10,14 +10,14 @@ use native.Mathlib.Omega.{arith}
 use Rattle.theory.specs.Sets.{Is, Set, ◌⊆◌, Mem, any, all}
 use Rattle.theory.specs.Theory.{Theory, WellFormed, Kind, False, Atom, And, Or, Opaque, Absorbed}
 use Rattle.theory.specs.Truth.{holds, truth_in, truth, fires}
-use Rattle.theory.proofs.SetLaws.{any_found, any_holds, all_at, all_holds, and_intro, and_left, and_right}
+use Rattle.theory.proofs.SetLaws.{is_false, clash, not_true, not_false, any_found, any_holds, all_at, all_holds, and_intro, and_left, and_right}
 
-holds_mono : (k : Kind) (v w : Bool) (s t : Set) (l : List ℕ) → (Is v → Is w) → s ⊆ t → Is (holds k v s l) → Is (holds k w t l)
+holds_mono : (k : Kind) (v w : Bool) (s t : Set) (l : List ℕ) → (k ≡ Atom → Is v → Is w) → ((m : ℕ) → Mem m l → Is (s m) → Is (t m)) → Is (holds k v s l) → Is (holds k w t l)
 unfolding holds
 holds_mono False v w s t l h i p = p
-holds_mono Atom v w s t l h i p = h p
-holds_mono And v w s t l h i p = all_holds t l (λ x m. i x (all_at s p m))
-holds_mono Or v w s t l h i p = let r = any_found s l p in any_holds t r.1 (i r.0 r.2)
+holds_mono Atom v w s t l h i p = h refl p
+holds_mono And v w s t l h i p = all_holds t l (λ x m. i x m (all_at s p m))
+holds_mono Or v w s t l h i p = let r = any_found s l p in any_holds t r.1 (i r.0 r.1 r.2)
 holds_mono Opaque v w s t l h i p = p
 holds_mono Absorbed v w s t l h i p = p
 
@@ -27,7 +27,7 @@ module _ (th : Theory) (never v w : Set) (h : v ⊆ w) where
   truth_in_mono zero n p = p
   truth_in_mono (suc k) n p =
       and_intro (and_left (not (never n)) _ p)
-      (holds_mono (th.kind n) _ _ _ _ (th.leaves n) (h (th.operand n)) (truth_in_mono k) (and_right (not (never n)) _ p))
+      (holds_mono (th.kind n) _ _ _ _ (th.leaves n) (λ e. h (th.operand n)) (λ m i. truth_in_mono k m) (and_right (not (never n)) _ p))
 
   pub truth_mono : truth th never v ⊆ truth th never w
   unfolding truth
@@ -76,3 +76,22 @@ module _ (th : Theory) (ok : WellFormed th) (never atom : Set) where
       ap (λ (b : Bool). not (never n) && b)
       (holds_ext (th.kind n) (atom (th.operand n)) (λ m. truth_in th never atom n m) (truth th never atom) (th.leaves n)
       (λ m i. let h = ok.leaf_low n m l i in rounds n (suc m) m (omega arith) (omega arith) (omega arith)))
+
+-- ---- more cuts
+
+module _ (th : Theory) (ok : WellFormed th) (never never′ v w : Set) (cut : (n : ℕ) → n < th.nodes → Is (never n) → Is (never′ n)) (h : (a : ℕ) → a < th.atoms → Is (v a) → Is (w a)) where
+  truth_in_less : (k n : ℕ) → n < th.nodes → Is (truth_in th never′ v k n) → Is (truth_in th never w k n)
+  unfolding truth_in
+  truth_in_less zero n l p = p
+  truth_in_less (suc k) n l p =
+      and_intro (not_false (never n) (is_false (never n) (λ z. clash (cut n l z) (not_true (never′ n) (and_left (not (never′ n)) _ p)))))
+      (holds_mono (th.kind n) _ _ _ _ (th.leaves n) (λ e. h (th.operand n) (ok.operand_low n l e))
+      (λ m i. let q = ok.leaf_low n m l i in truth_in_less k m (omega arith)) (and_right (not (never′ n)) _ p))
+
+  pub fires_less : (p : ℕ) → p < th.producers → Is (fires th never′ v (th.body p)) → Is (fires th never w (th.body p))
+  unfolding fires truth
+  fires_less p l = go (th.body p) refl
+    where
+      go : (k : ℕ) → th.body p ≡ k → Is (fires th never′ v k) → Is (fires th never w k)
+      go zero e q = q
+      go (suc n) e q = truth_in_less (suc n) n (ok.body_low p n l e) q
