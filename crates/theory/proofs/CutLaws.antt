@@ -47,7 +47,7 @@ module _ (th : Theory) (ok : WellFormed th) (marked : Set) where
         among_least th marked never atom_never (founded_among th marked never more)
         (λ a p l m c low i f.
         let was = among_closed th marked never atom_never a p l m c low i
-            (fires_less th ok never never _ _ (λ n k q. q) (λ b k. atom_carries marked atom_never atom_never _ _ b (λ e z. z) (fewer b)) p low f) in
+        (fires_less th ok never never _ _ (λ n k q. q) (λ b k. atom_carries marked atom_never atom_never _ _ b (λ e z. z) (fewer b)) p low f) in
         among_closed th marked never more a p l m (stays a l (λ z. clash was ((among_parts th marked never atom_never a).0 z).2) c) low i
         (fires_less th ok never never _ _ (λ n k q. q)
         (λ b k. atom_carries marked atom_never more _ _ b (only b k) (λ q. q)) p low f))
