@@ -99,7 +99,7 @@ impl fmt::Debug for Difference {
 }
 
 /// A difference on these words.
-fn on<W: Word>(words: &[W], masks: Option<&Masks>) -> impl FnOnce(String) -> Difference {
+pub(crate) fn on<W: Word>(words: &[W], masks: Option<&Masks>) -> impl FnOnce(String) -> Difference {
     move |what| Difference {
         what,
         edition: W::EDITION.number,

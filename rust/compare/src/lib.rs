@@ -6,6 +6,7 @@
 //! - [`agree`]: one graph compared, with its masks;
 //! - [`ours`]: the proved calls, with the memory lent to them watched;
 //! - [`runs`]: whole families of graphs compared;
+//! - [`recut`]: what request 7 promises, over runs of the proved calls;
 //! - [`programs`]: a program held to the papers' text;
 //! - [`record`]: the recorded list.
 
@@ -19,6 +20,7 @@ pub mod ours;
 pub mod programs;
 pub mod random;
 pub mod record;
+pub mod recut;
 pub mod rng;
 pub mod runs;
 pub mod tiny;

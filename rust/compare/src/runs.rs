@@ -5,8 +5,9 @@ use std::collections::{BTreeMap, BTreeSet};
 use crate::agree::{
     Difference, Masks, Side, Tally, compare, compare_both, compare_renumbered, wrong_lengths,
 };
-use crate::calls::{Word, widened};
+use crate::calls::{Calls, Word, widened};
 use crate::random::{SCALES, Scale};
+use crate::recut::{Recut, Search};
 use crate::rng::Rng;
 use crate::tiny::Sizes;
 use crate::{damage, edges, random, tiny};
@@ -174,6 +175,39 @@ pub fn wide_graphs(seed: u64, scale: Scale, from: u64, to: u64) -> Compared {
         }
     })
 }
+
+/// Request 7 on every content of exactly these counts under every pair of masks,
+/// with every part of each list.
+pub fn recut_contents(calls: Calls<u16>, sizes: Sizes) -> Result<Recut, Box<Difference>> {
+    let masks = tiny::all_masks(usize::from(sizes.atoms), sizes.nodes);
+    let (mut search, mut rng) = (Search::new(calls), Rng::new(7));
+    up_to_the_first(
+        |words, masks| search.hold(words, masks, 6, &mut rng),
+        |visit| tiny::each_content(sizes, |content| visit(&content.words(), &masks)),
+    )?;
+    Ok(search.held)
+}
+
+/// Request 7 on random graphs `from` up to `to` under three pairs of masks each;
+/// of a list of up to six atoms every part.
+pub fn recut<W: Word>(
+    calls: Calls<W>,
+    seed: u64,
+    from: u64,
+    to: u64,
+) -> Result<Recut, Box<Difference>> {
+    let mut search = Search::new(calls);
+    for i in from..to {
+        let mut rng = numbered(seed ^ RECUT, i);
+        let words: Vec<W> = random::graph(&mut rng, SCALES[scale(i)]);
+        let masks = random::masks(&mut rng, &words, 3);
+        search.hold(&words, &masks, 6, &mut rng)?;
+    }
+    Ok(search.held)
+}
+
+/// What the generators of these graphs differ in from those of the random ones.
+const RECUT: u64 = 0x7777_0000_0000_0000;
 
 /// The limits: edges, accepted or not, and the largest graphs.
 pub fn limits(seed: u64) -> Compared {

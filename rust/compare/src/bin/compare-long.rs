@@ -6,13 +6,15 @@
 //! in edition 1 and laid out in edition 2;
 //! then the limits of edition 2, as many copies damaged in its own words, and
 //! random graphs above edition 1's limits, one of the largest for each 100,000 of
-//! COUNT. It prints what it compared, and ends with 1 at the first difference.
+//! COUNT; and request 7's relations on a quarter as many. It prints what it
+//! compared, and ends with 1 at the first difference.
 
 use std::collections::BTreeMap;
 use std::process::ExitCode;
 use std::time::Instant;
 
 use compare::agree::{Difference, Tally};
+use compare::calls::Word;
 use compare::random::WIDE_SCALES;
 use compare::runs::{self, Compared};
 
@@ -105,5 +107,9 @@ fn all(seed: u64, count: u64) -> Result<Families, Box<Difference>> {
         )?;
     }
     say("wide-limits widest".into(), runs::widest())?;
+    for (from, to) in spans(count / 4) {
+        let held = runs::recut(u16::ARCHIVE, seed, from, to)?;
+        println!("[{:.0?}] recut {from}..{to}: {held:?}", start.elapsed());
+    }
     Ok(families)
 }
