@@ -1,10 +1,12 @@
--- A part of the work area, from a to e, that was lent and came back as p: what stands in the whole then.
+-- A part of the work area, from a to e, that was lent and came back as p: what stands in the whole then. Words that stay outside a region: after no store, two changes and a store
+-- (`outside_none`, `outside_then`, `outside_set`).
 use mathlib.Core.Path.{◌≡◌, refl, sym, ap, ◌∙◌}
 use mathlib.Core.List.{List, ◌++◌, append_assoc}
 use Prim.Native.Nat.{ℕ, ◌+◌, ◌-◌, ◌≤◌, ◌<◌}
 use native.Mathlib.Omega.{arith}
-use lib.ListN.{length, get_or, take, drop, length-append, length-take, length-drop, get_or-append}
-use lib.Seq.{slice, get_or-take, take-take, length-take-le, take_at, take-append-le, take-append-add, drop-append-add, drop-drop, get_or-drop, get_or-append-add}
+use lib.ListN.{length, get_or, set, take, drop, length-append, length-take, length-drop, length-set, get_or-append}
+use lib.Seq.{slice, get_or-take, take-take, length-take-le, take_at, take-append-le, take-append-add, drop-append-add, drop-drop, get_or-drop, get_or-append-add, take-set-le, drop-set-lt}
+use Rattle.area.specs.Views.{Outside}
 
 module _ (a e : ℕ) (w p : List ℕ) (h : a ≤ e) (k : e ≤ length w) (size : length p ≡ e - a) where
   front : length (take a w) ≡ a
@@ -59,3 +61,14 @@ module _ (m : ℕ) (w w' : List ℕ) (e : drop m w' ≡ drop m w) where
 
   pub behind_at : (i : ℕ) → m ≤ i → get_or w' i 0 ≡ get_or w i 0
   behind_at i h = let q : m + (i - m) ≡ i = omega arith in rw (sym q, ← get_or-drop m w' (i - m) 0, ← get_or-drop m w (i - m) 0, e) refl
+
+-- ---- words outside
+
+pub outside_none : {from to : ℕ} {w : List ℕ} → Outside from to w w
+outside_none = record { size = refl; before = refl; after = refl }
+
+pub outside_then : {from to : ℕ} {w₀ w₁ w₂ : List ℕ} → Outside from to w₀ w₁ → Outside from to w₁ w₂ → Outside from to w₀ w₂
+outside_then p q = record { size = q.size ∙ p.size; before = q.before ∙ p.before; after = q.after ∙ p.after }
+
+pub outside_set : (from to : ℕ) (w : List ℕ) (i x : ℕ) → from ≤ i → i < to → Outside from to w (set w i x)
+outside_set from to w i x h k = record { size = length-set w i x; before = take-set-le from w i x h; after = drop-set-lt to w i x k }

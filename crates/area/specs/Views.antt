@@ -1,5 +1,5 @@
--- How the words of the work area are read: a vertex's mark and count, an atom's flag, and the vertices on the queue.
-use Rattle.std.specs.Prelude.{List, map, ℕ, ◌+◌, get_or, drop}
+-- How the words of the work area are read: a vertex's mark and count, an atom's flag, and the vertices on the queue; and words that stay outside a region.
+use Rattle.std.specs.Prelude.{◌≡◌, List, map, ℕ, ◌+◌, get_or, length, take, drop}
 use Rattle.theory.specs.Prefix.{upto}
 use Rattle.area.specs.declared.Bases.{Bases}
 
@@ -24,3 +24,9 @@ queued b w n = upto n (drop b.queue w)
 -- nodes as vertices
 abbrev pub as_vertices : Bases → List ℕ → List ℕ
 as_vertices b nodes = map (λ n. b.atoms + n) nodes
+
+-- every word before one place and from another on stays
+pub record Outside (from to : ℕ) (w w' : List ℕ) : Type 0 where
+  pub size : length w' ≡ length w
+  pub before : take from w' ≡ take from w
+  pub after : drop to w' ≡ drop to w

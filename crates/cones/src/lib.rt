@@ -20,7 +20,7 @@ use refusals::search::first;
 use words::Word;
 
 // How many nodes a cone has, and how many facts were wanted.
-#[derive(Drop)]
+#[derive(Clone, Copy)]
 pub struct Cone {
     pub nodes: usize,
     pub facts: usize,

@@ -1,7 +1,7 @@
 -- The worklist of the loop test, in which every vertex waits for all its predecessors: it starts with those that have none (`running`), and at its end all
 -- vertices are on the queue exactly if there is no closed walk (`answer`).
 use mathlib.Core.Path.{◌≡◌, refl, sym, ◌∙◌}
-use mathlib.Core.List.{List, []}
+use mathlib.Core.List.{List, [], append-nil}
 use Prim.Native.Nat.{ℕ, ◌+◌, ◌<◌}
 use native.Mathlib.Omega.{arith}
 use native.Mathlib.Decide.{dec_lt}
@@ -13,9 +13,10 @@ use Rattle.theory.specs.Counts.{count_in}
 use Rattle.theory.specs.Walks.{Walk, edge, next}
 use Rattle.theory.specs.Words.{theory_of}
 use Rattle.theory.specs.Edges.{vertices, preds}
+use Rattle.theory.specs.Rows.{succs}
 use Rattle.theory.specs.Founded.{has_cycle}
 use Rattle.theory.specs.Closure.{every}
-use Rattle.theory.specs.Worklist.{Started, Worklist}
+use Rattle.theory.specs.Worklist.{Started, Serving, Worklist}
 use Rattle.theory.specs.Prefix.{upto}
 use Rattle.theory.proofs.SetLaws.{is_false}
 use Rattle.theory.proofs.EdgeLaws.{preds_low}
@@ -25,7 +26,7 @@ use Rattle.theory.proofs.PrefixLaws.{upto_length}
 use Rattle.theory.proofs.WorklistLaws.{worklist_start}
 use Rattle.theory.proofs.KahnLaws.{kahn_open, kahn_closed}
 use Rattle.area.specs.declared.Bases.{Bases}
-use Rattle.area.proofs.PartLaws.{frame_at, frame_less}
+use Rattle.area.proofs.PartLaws.{frame_at, frame_less, outside_none}
 use Rattle.area.specs.Views.{count_at, queued}
 use Rattle.rows.specs.Rows.{Tables}
 use Rattle.events.specs.Run.{Running, Ran}
@@ -52,7 +53,7 @@ module _ {lim : ℕ} (ws : List ℕ) {b : Bases} {w w' : List ℕ} {t : ℕ} (c 
     first = λ v h. ((λ m. (count_same v h ∙ ((k.first v).0 m).1, λ e. let z : ◌≡◌ {A = ℕ} 0 1 = cc in omega arith)), λ p. (k.first v).1 (h, sym (count_same v h) ∙ p.0));
   }
 
-  pub running : Running lim ws b (λ v. every) w' 0 t
+  pub running : Running lim b (λ v. every) (preds (theory_of ws) everyone) [] w' 0 t
   unfolding upto
   running =
       let l = c.shape.laid in let g = c.shape.long in let s = c.shape.small in let e = k.size in
@@ -64,16 +65,18 @@ module _ {lim : ℕ} (ws : List ℕ) {b : Bases} {w w' : List ℕ} {t : ℕ} (c 
           small = omega arith;
           fore = omega arith;
           front = λ i h. refl;
-          settling = worklist_start (b.atoms + b.nodes) (λ v. every) (preds (theory_of ws) everyone) started;
+          outside = outside_none;
+          settling = rw (append-nil (queued b w' t)) (worklist_start (b.atoms + b.nodes) (λ v. every) (preds (theory_of ws) everyone) started);
         };
       }
 
-  pub answer : {w'' : List ℕ} {n : ℕ} → Ran lim ws b w' w'' 0 t n n → ltb n (b.atoms + b.nodes) ≡ has_cycle (theory_of ws)
+  pub answer : {w'' : List ℕ} {n : ℕ} → Serving (b.atoms + b.nodes) (λ v. every) (preds (theory_of ws) everyone) (succs (theory_of ws)) → Ran lim b (succs (theory_of ws)) w' w'' 0 t n n
+      → ltb n (b.atoms + b.nodes) ≡ has_cycle (theory_of ws)
   unfolding vertices
-  answer {w''} {n} r = go (dec_lt n (b.atoms + b.nodes))
+  answer {w''} {n} serving r = go (dec_lt n (b.atoms + b.nodes))
     where
       list : Worklist (b.atoms + b.nodes) (λ v. every) (preds (theory_of ws) everyone) (queued b w'' n) (queued b w'' n) [] (count_at b w'')
-      list = (r.runs (λ v. every) running).held.settling
+      list = rw (append-nil (queued b w'' n)) at (r.runs (λ v. every) (preds (theory_of ws) everyone) [] serving running).held.settling
 
       -- a vertex of the bases is one of the theory
       bound : b.atoms + b.nodes ≡ (theory_of ws).atoms + (theory_of ws).nodes

@@ -1,20 +1,21 @@
 -- An entry that is settled, on the words: nothing left to wait for, something left, or the last thing.
 use mathlib.Core.Path.{◌≡◌, refl, sym, ap, ◌∙◌}
 use mathlib.Core.Logic.{◌≢◌}
-use mathlib.Core.List.{List, [], ◌∷◌}
+use mathlib.Core.List.{List, [], ◌∷◌, ◌++◌}
 use Prim.Native.Nat.{ℕ, zero, suc, ◌+◌, ◌-◌, ◌<◌}
 use native.Mathlib.Omega.{arith}
 use mir.Val.{bool_byte}
 use borrow.Author.Tests.{lt-ltb}
 use lib.Dec.{ltb}
-use lib.ListN.{get_or, set, drop, length-set}
+use lib.ListN.{get_or, set, drop, length-set, length-append}
 use lib.Seq.{set-get_or, get_or-set_other, take-set-le}
 use Rattle.theory.proofs.PrefixLaws.{upto_length}
 use Rattle.theory.specs.Worklist.{Worklist}
 use Rattle.theory.proofs.WorklistLaws.{entry_low, entry_idle, entry_count, entry_found, entry_room}
 use Rattle.theory.specs.Drive.{Follows, Drives}
 use Rattle.area.specs.declared.Bases.{Bases}
-use Rattle.area.specs.Views.{count_at, queued}
+use Rattle.area.specs.Views.{count_at, queued, Outside}
+use Rattle.area.proofs.PartLaws.{outside_then, outside_set}
 use Rattle.area.proofs.ViewLaws.{count_same, count_other, count_queue, push_count, push_queue}
 use Rattle.events.specs.Held.{Ctx, Held}
 use Rattle.rows.proofs.TurnLaws.{Ready}
@@ -26,7 +27,7 @@ one_of (suc n) = rw (lt-ltb 0 (suc n) (omega arith)) (omega arith)
 
 module _ {lim : ℕ} {b : Bases} {w : List ℕ} {t v : ℕ} where
   module _ {c : Ctx} {todo : List ℕ} (h : Held lim b c w t (v ∷ todo)) where
-    list : Worklist (b.atoms + b.nodes) c.mode c.pred (queued b w t) c.done (v ∷ todo) (count_at b w)
+    list : Worklist (b.atoms + b.nodes) c.mode c.pred (queued b w t ++ c.aside) c.done (v ∷ todo) (count_at b w)
     list = h.settling
 
     low : v < b.atoms + b.nodes
@@ -39,6 +40,7 @@ module _ {lim : ℕ} {b : Bases} {w : List ℕ} {t v : ℕ} where
       small = h.small;
       fore = h.fore;
       front = h.front;
+      outside = h.outside;
       settling = entry_idle (b.atoms + b.nodes) c.mode c.pred list z;
     }
 
@@ -52,6 +54,9 @@ module _ {lim : ℕ} {b : Bases} {w : List ℕ} {t v : ℕ} where
       others : (x : ℕ) → x < b.atoms + b.nodes → x ≢ v → count_at b (set w (b.dependencies + v) n) x ≡ count_at b w x
       others x l k = count_other h.laid w h.long v n low x k
 
+      lessened : Outside b.dependencies b.body_nodes w (set w (b.dependencies + v) n)
+      lessened = let q = h.laid in let x = low in outside_set b.dependencies b.body_nodes w (b.dependencies + v) n (omega arith) (omega arith)
+
       held_count : 0 < n → Held lim b c (set w (b.dependencies + v) n) t todo
       held_count p = record {
         laid = h.laid;
@@ -59,13 +64,14 @@ module _ {lim : ℕ} {b : Bases} {w : List ℕ} {t v : ℕ} where
         small = h.small;
         fore = h.fore;
         front = λ i l. let q = h.laid in let x = low in get_or-set_other w (b.dependencies + v) (b.queue + i) n 0 (λ e. omega arith) ∙ h.front i l;
+        outside = outside_then h.outside lessened;
         settling = rw (count_queue h.laid w h.long v n low t) (entry_count (b.atoms + b.nodes) c.mode c.pred list (count_at b (set w (b.dependencies + v) n)) fewer others (rw here p));
       }
 
       room : t < b.atoms + b.nodes
       room =
           let k = entry_room (b.atoms + b.nodes) c.mode c.pred list (count_at b (set w (b.dependencies + v) n)) fewer others in
-          omega (arith, upto_length t (drop b.queue w))
+          omega (arith, upto_length t (drop b.queue w), length-append (queued b w t) c.aside)
 
       -- the counts after the vertex is on the queue
       beyond : (x : ℕ) → x < b.atoms + b.nodes → count_at b (set (set w (b.dependencies + v) n) (b.queue + t) v) x ≡ count_at b (set w (b.dependencies + v) n) x
@@ -80,6 +86,9 @@ module _ {lim : ℕ} {b : Bases} {w : List ℕ} {t v : ℕ} where
         front = λ i l.
             let q = h.laid in let x = low in let a = h.fore in
             get_or-set_other (set w (b.dependencies + v) n) (b.queue + t) (b.queue + i) v 0 (λ e. omega arith) ∙ get_or-set_other w (b.dependencies + v) (b.queue + i) n 0 (λ e. omega arith) ∙ h.front i l;
+        outside =
+            let q = h.laid in let x = room in
+            outside_then (outside_then h.outside lessened) (outside_set b.dependencies b.body_nodes (set w (b.dependencies + v) n) (b.queue + t) v (omega arith) (omega arith));
         settling =
             rw (push_queue h.laid (set w (b.dependencies + v) n) (rw length-set h.long) t v room, count_queue h.laid w h.long v n low t)
             (entry_found (b.atoms + b.nodes) c.mode c.pred list (count_at b (set (set w (b.dependencies + v) n) (b.queue + t) v))

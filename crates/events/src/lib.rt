@@ -1,14 +1,14 @@
-// The worklist of the pass: every row of a vertex that is found is followed once, and each entry of it settled, one thing fewer to wait for.
+// The worklist of the pass, by any rows that serve: every row of a vertex that is found is followed once, and each entry of it settled, one thing fewer to wait for.
 #![tactic(auto)]
 
-ghost use Rattle.std.specs.Prelude.{ℕ, length};
+ghost use Rattle.std.specs.Prelude.{◌≡◌, [], List, ℕ, ◌+◌, ◌<◌, length};
 ghost use Rattle.theory.specs.Words.{theory_of};
-ghost use Rattle.theory.specs.Accepted.{Accepted};
-ghost use Rattle.area.specs.Layout.{bases_of, Based};
+ghost use Rattle.theory.specs.Rows.{succs};
+ghost use Rattle.theory.specs.Drive.{Follows, Drives};
+ghost use Rattle.area.specs.declared.Bases.{Bases};
+ghost use Rattle.area.specs.Layout.{bases_of};
 ghost use Rattle.events.specs.Held.{Ctx, Held};
-ghost use Rattle.rows.specs.Rows.{Tables};
-ghost use Rattle.events.specs.Run.{Running, Ran};
-ghost use Rattle.theory.specs.Closure.{Mode};
+ghost use Rattle.events.specs.Run.{GraphRows, Abides, Ran, Runs};
 
 use area::Bases;
 use chains::Step;
@@ -17,8 +17,8 @@ use words::Word;
 // One thing fewer that an entry waits for, and no branch on whether it waits at all; after the last one it is found, and goes on the queue.
 // (Counts and queue are words of lent memory; `tail` is the queue's length.)
 #[derive(Clone, Copy)]
-struct Settle {
-    bases: Bases,
+pub struct Settle {
+    pub bases: Bases,
 }
 
 impl<W: Word> Step<W> for Settle {
@@ -42,11 +42,47 @@ impl<W: Word> Step<W> for Settle {
     }
 }
 
+// The rows by which a worklist is run: those of the graph, or narrowed ones.
+pub trait Rows<W: Word>: Copy {
+    ghost bases: { Self → Bases };
+
+    // The row of a vertex, and what the words of the work area have to hold for it.
+    ghost row_of: { Self → ℕ → List ℕ };
+
+    ghost stand: { Self → List ℕ → Type 0 };
+
+    // Every entry of the row of vertex v is settled.
+    fn settle(self, work: &mut [W], v: usize, tail: usize) -> usize
+        requires stand { stand self (W.numbers work.old) × (v < (bases self).atoms + (bases self).nodes) }
+        requires follows { Follows (Held W.limit (bases self)) (W.numbers work.old) tail (row_of self v) }
+        ensures { Drives (Held W.limit (bases self)) (bases self).states (W.numbers work.old) tail (row_of self v) (W.numbers work.new) result [] };
+}
+
+// The rows of the graph, as its tables have them.
+#[derive(Clone, Copy)]
+pub struct Original<'a, W> {
+    pub graph: &'a [W],
+    pub bases: Bases,
+}
+
+impl<W: Word> Rows<W> for Original<'_, W> {
+    ghost bases = { λ it. it.bases };
+
+    ghost row_of = { λ it. succs (theory_of (W.numbers it.graph.now)) };
+
+    ghost stand = { λ it. GraphRows W.edition (W.numbers it.graph.now) it.bases };
+
+    fn settle(self, work: &mut [W], v: usize, tail: usize) -> usize {
+        let b = self.bases;
+        rows::along(self.graph, work, b, Settle { bases: b }, v, tail)
+    }
+}
+
 // Every vertex on the queue, in turn: the rows of those that are found on the way too.
-fn settle_in<W: Word>(graph: &[W], work: &mut [W], b: Bases, first: usize) -> usize
-    requires accepted { Accepted W.edition (W.numbers graph.now) × Based (W.numbers graph.now) (length (W.numbers work.old)) b × Tables (theory_of (W.numbers graph.now)) b (W.numbers work.old) }
-    requires by_index { (mode : ℕ → Mode) × Running W.limit (W.numbers graph.now) b mode (W.numbers work.old) 0 first }
-    ensures { Ran W.limit (W.numbers graph.now) b (W.numbers work.old) (W.numbers work.new) 0 first result result }
+pub fn settle_in<W: Word, R: Rows<W>>(work: &mut [W], b: Bases, rows: R, first: usize) -> usize
+    requires stand { (R.bases rows ≡ b) × Abides b (W.numbers work.old) (R.stand rows) }
+    requires runs { Runs W.limit b (R.row_of rows) (W.numbers work.old) first }
+    ensures { Ran W.limit b (R.row_of rows) (W.numbers work.old) (W.numbers work.new) 0 first result result }
 {
     let mut head: usize = 0;
     let mut tail = first;
@@ -54,18 +90,19 @@ fn settle_in<W: Word>(graph: &[W], work: &mut [W], b: Bases, first: usize) -> us
     // (no walk shared with `components::follow`: what holds between the turns differs, a clause can't be over any predicate, and a trait for it would be longer)
     while head < tail {
         let v = words::at(work, b.queue + head);
-        tail = rows::along(graph, work, b, Settle { bases: b }, v, tail);
+        tail = rows.settle(work, v, tail);
         head += 1;
     }
     tail
 }
 
-// The same, with the bases worked out here (`area::bases_of` says why).
+// By the graph's rows, with the bases worked out here (`area::bases_of` says why).
 pub fn settle_all<W: Word>(graph: &[W], work: &mut [W], first: usize) -> usize
-    requires accepted { Accepted W.edition (W.numbers graph.now) × Based (W.numbers graph.now) (length (W.numbers work.old)) (bases_of (W.numbers graph.now) (length (W.numbers work.old))) × Tables (theory_of (W.numbers graph.now)) (bases_of (W.numbers graph.now) (length (W.numbers work.old))) (W.numbers work.old) }
-    requires by_index { (mode : ℕ → Mode) × Running W.limit (W.numbers graph.now) (bases_of (W.numbers graph.now) (length (W.numbers work.old))) mode (W.numbers work.old) 0 first }
-    ensures { Ran W.limit (W.numbers graph.now) (bases_of (W.numbers graph.now) (length (W.numbers work.old))) (W.numbers work.old) (W.numbers work.new) 0 first result result }
+    requires stand { GraphRows W.edition (W.numbers graph.now) (bases_of (W.numbers graph.now) (length (W.numbers work.old))) (W.numbers work.old) }
+    requires runs { Runs W.limit (bases_of (W.numbers graph.now) (length (W.numbers work.old))) (succs (theory_of (W.numbers graph.now))) (W.numbers work.old) first }
+    ensures { Ran W.limit (bases_of (W.numbers graph.now) (length (W.numbers work.old))) (succs (theory_of (W.numbers graph.now))) (W.numbers work.old) (W.numbers work.new) 0 first result result }
 {
     let words = work.len();
-    settle_in(graph, work, area::bases_of(graph, words), first)
+    let b = area::bases_of(graph, words);
+    settle_in(work, b, Original { graph, bases: b }, first)
 }

@@ -17,8 +17,8 @@ use Rattle.area.specs.Views.{count_at}
 use Rattle.initialization.specs.Regions.{Flagged}
 use Rattle.initialization.specs.Start.{Filled}
 use Rattle.area.proofs.ViewLaws.{count_same, count_other}
-use Rattle.area.proofs.PartLaws.{behind_more}
-use Rattle.initialization.proofs.RegionLaws.{outside_then, outside_set, flagged_kept}
+use Rattle.area.proofs.PartLaws.{behind_more, outside_then, outside_set}
+use Rattle.initialization.proofs.RegionLaws.{flagged_kept}
 
 -- ---- a count by its flag
 

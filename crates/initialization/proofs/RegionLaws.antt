@@ -1,27 +1,15 @@
--- Every word outside a region stays, and with the words behind the queue what their lists say.
-use mathlib.Core.Path.{◌≡◌, refl, ap, ◌∙◌}
+-- With the words behind the queue what their lists say stays.
+use mathlib.Core.Path.{◌≡◌, ap, ◌∙◌}
 use mathlib.Core.List.{List}
-use Prim.Native.Nat.{ℕ, ◌+◌, ◌≤◌, ◌<◌}
+use Prim.Native.Nat.{ℕ, ◌+◌}
 use native.Mathlib.Omega.{arith}
-use lib.ListN.{set, drop, length-set}
-use lib.Seq.{take-set-le, drop-set-lt}
+use lib.ListN.{drop}
 use Rattle.theory.specs.Sets.{Set}
 use Rattle.theory.specs.Prefix.{upto}
 use Rattle.area.specs.declared.Bases.{Bases}
 use Rattle.area.specs.Layout.{Laid}
 use Rattle.area.proofs.PartLaws.{behind_more, behind_at}
-use Rattle.initialization.specs.Regions.{cone_nodes, fact_rows, Flagged, Prepared, Outside}
-
--- ---- words outside
-
-pub outside_none : {from to : ℕ} {w : List ℕ} → Outside from to w w
-outside_none = record { size = refl; before = refl; after = refl }
-
-pub outside_then : {from to : ℕ} {w₀ w₁ w₂ : List ℕ} → Outside from to w₀ w₁ → Outside from to w₁ w₂ → Outside from to w₀ w₂
-outside_then p q = record { size = q.size ∙ p.size; before = q.before ∙ p.before; after = q.after ∙ p.after }
-
-pub outside_set : (from to : ℕ) (w : List ℕ) (i x : ℕ) → from ≤ i → i < to → Outside from to w (set w i x)
-outside_set from to w i x h k = record { size = length-set w i x; before = take-set-le from w i x h; after = drop-set-lt to w i x k }
+use Rattle.initialization.specs.Regions.{cone_nodes, fact_rows, Flagged, Prepared}
 
 -- ---- what the lists behind the queue say stays with them
 

@@ -27,12 +27,12 @@ use Rattle.area.specs.declared.Bases.{Bases}
 use Rattle.area.specs.Layout.{Laid, Based}
 use Rattle.initialization.specs.declared.Initial.{Initial}
 use Rattle.initialization.specs.declared.Initial.TheVariants.{Inactive, Awaiting, True}
-use Rattle.area.specs.Views.{count_at, queued, as_vertices}
-use Rattle.initialization.specs.Regions.{cone_nodes, fact_rows, Prepared, Outside, Begun}
+use Rattle.area.specs.Views.{count_at, queued, as_vertices, Outside}
+use Rattle.initialization.specs.Regions.{cone_nodes, fact_rows, Prepared, Begun}
 use Rattle.initialization.specs.Start.{initial_at, Filled, Context, At, Fitting, AtFacts, pass_context, AtNodes, AtCone, Stays}
 use Rattle.area.proofs.ViewLaws.{count_same, count_other, count_queue, push_count, push_queue}
-use Rattle.area.proofs.PartLaws.{behind_more}
-use Rattle.initialization.proofs.RegionLaws.{flagged_kept, outside_none, outside_set, outside_then, cone_same, prepared_kept}
+use Rattle.area.proofs.PartLaws.{behind_more, outside_none, outside_set, outside_then}
+use Rattle.initialization.proofs.RegionLaws.{flagged_kept, cone_same, prepared_kept}
 use Rattle.initialization.proofs.InitialLaws.{told_dead, told_true, told_waits, told_fits}
 
 -- what a step goes by: vertex v has a count

@@ -1,5 +1,5 @@
 -- What the regions hold when the pass starts, and what its start leaves: a count a vertex, and the vertices found so far.
-use Rattle.std.specs.Prelude.{◌≡◌, ◌↔◌, cond, List, ℕ, ◌≤◌, ◌<◌, length, take, drop}
+use Rattle.std.specs.Prelude.{◌≡◌, ◌↔◌, cond, List, ℕ, ◌≤◌, ◌<◌, drop}
 use Rattle.theory.specs.Sets.{Set, Is, everyone, Mem, any}
 use Rattle.theory.specs.Counts.{Distinct}
 use Rattle.theory.specs.Edges.{vertices, preds}
@@ -9,7 +9,7 @@ use Rattle.theory.specs.Prefix.{upto}
 use Rattle.theory.specs.Worklist.{Started}
 use Rattle.theory.specs.Pass.{pass_mode}
 use Rattle.area.specs.declared.Bases.{Bases}
-use Rattle.area.specs.Views.{count_at, flag_at, queued}
+use Rattle.area.specs.Views.{count_at, flag_at, queued, Outside}
 
 -- so many nodes of a cone, and so many facts
 abbrev pub cone_nodes : Bases → List ℕ → ℕ → List ℕ
@@ -39,12 +39,6 @@ pub record Prepared (ws : List ℕ) (b : Bases) (w : List ℕ) (nodes facts : �
   pub cone : ConeListed ws (cone_nodes b w nodes)
   pub facts_few : facts ≤ b.producers
   pub stated : FactsListed ws (fact_rows b w facts)
-
--- every word before one place and from another on stays
-pub record Outside (from to : ℕ) (w w' : List ℕ) : Type 0 where
-  pub size : length w' ≡ length w
-  pub before : take from w' ≡ take from w
-  pub after : drop to w' ≡ drop to w
 
 -- what the start leaves, with t vertices on the queue: counts and queue are written, nothing else
 pub record Begun (ws : List ℕ) (never atom_never : Set) (b : Bases) (w w' : List ℕ) (t : ℕ) : Type 0 where

@@ -13,8 +13,8 @@ use Rattle.area.specs.declared.Bases.{Bases}
 use Rattle.area.specs.Layout.{Laid, Based}
 use Rattle.initialization.specs.declared.Initial.{Initial}
 use Rattle.initialization.specs.declared.Initial.TheVariants.{Inactive, Awaiting, True}
-use Rattle.area.specs.Views.{count_at, queued, as_vertices}
-use Rattle.initialization.specs.Regions.{Flagged, Outside}
+use Rattle.area.specs.Views.{count_at, queued, as_vertices, Outside}
+use Rattle.initialization.specs.Regions.{Flagged}
 
 -- the start state of a vertex to which n entries lead
 unfoldable pub initial_of : Mode → ℕ → Initial

@@ -7,6 +7,7 @@ use lib.ListN.{length}
 use Rattle.theory.specs.Sets.{Set}
 use Rattle.theory.specs.Words.{theory_of}
 use Rattle.theory.specs.Edges.{body_cone}
+use Rattle.theory.specs.Founded.{cyclic, cyclic_cone}
 use Rattle.refusals.specs.Answer.{accept, refuse}
 use Rattle.refusals.specs.Refusals.{absorbed_row}
 use Rattle.area.specs.declared.Bases.{Bases}
@@ -16,10 +17,11 @@ use Rattle.adjacency.proofs.TableLaws.{kept}
 use Rattle.rows.proofs.VertexLaws.{tables_same}
 use Rattle.cones.specs.Cones as cones
 use Rattle.cones.specs.declared.Absorbed.{Absorbed}
+use Rattle.cones.specs.declared.Cone.{Cone}
 use Rattle.std.specs.Prelude.{Result, Ok, Err}
 use Rattle.std.specs.Result.{IsErrAnd}
 use Rattle.preparation.specs.Flags.{Marked, Listed}
-use Rattle.preparation.specs.Stages.{Rowed, Onward, Marking, Staged, Passing}
+use Rattle.preparation.specs.Stages.{Rowed, Onward, Marking, Staged, Standing, Stood, Passing}
 
 module _ (ws : List ℕ) (b : Bases) (w₀ : List ℕ) where
   pub onward : {w₁ w₂ : List ℕ} {x : ℕ} → Based ws (length w₀) b → Rowed ws b w₀ w₁ → cones.Kept b w₁ w₂ → cones.Found (theory_of ws) (body_cone (theory_of ws)) b w₂ x → Onward ws b w₂
@@ -46,15 +48,28 @@ module _ (ws : List ℕ) (b : Bases) (w₀ : List ℕ) where
     marked_staged (Ok u) s = record { size = s.marking.size; flags = s.marking.flags; row = s.row }
     marked_staged (Err e) s = s
 
-    pub ready_pass : (u : Unit {0}) → Staged ws b w₀ w (Ok u) → Marking ws b w w × (length w ≡ length w₀) × (absorbed_row (theory_of ws) ≡ accept)
+    pub marked_flags : (u : Unit {0}) → Staged ws b w₀ w (Ok u) → Marking ws b w₀ w × (absorbed_row (theory_of ws) ≡ accept)
     unfolding Staged
-    ready_pass u q = (record { size = refl; tables = q.marking.tables; flags = q.marking.flags }, q.marking.size, q.row)
+    marked_flags u q = (q.marking, q.row)
 
-    pub listed_refused : (never atom_never : Set) (e : Absorbed) (r : Result (Unit {0}) Absorbed) → IsErrAnd r (λ x. x ≡ e) → Staged ws b w₀ w (Err e) → Listed ws never atom_never b w₀ w r
-    unfolding Staged Listed
+    pub stood_refused : (e : Absorbed) (r : Result Cone Absorbed) → IsErrAnd r (λ x. x ≡ e) → Staged ws b w₀ w (Err e) → Stood ws b w₀ w r
+    unfolding Staged Stood
+    stood_refused e (Ok u) h s = absurd h
+    stood_refused e (Err x) h s = rw h s
+
+    pub stood_done : (c : Cone) → length w ≡ length w₀ → absorbed_row (theory_of ws) ≡ accept → Standing ws b (cyclic (theory_of ws)) (cyclic_cone (theory_of ws)) w c → Stood ws b w₀ w (Ok c)
+    unfolding Stood
+    stood_done c s e h = record { size = s; row = e; standing = h }
+
+    pub stood_standing : (c : Cone) → Stood ws b w₀ w (Ok c) → (length w ≡ length w₀) × (absorbed_row (theory_of ws) ≡ accept) × Standing ws b (cyclic (theory_of ws)) (cyclic_cone (theory_of ws)) w c
+    unfolding Stood
+    stood_standing c s = (s.size, s.row, s.standing)
+
+    pub listed_refused : (never atom_never : Set) (e : Absorbed) (r : Result (Unit {0}) Absorbed) → IsErrAnd r (λ x. x ≡ e) → Stood ws b w₀ w (Err e) → Listed ws never atom_never b w₀ w r
+    unfolding Stood Listed
     listed_refused never atom_never e (Ok u) h s = absurd h
     listed_refused never atom_never e (Err x) h s = rw h s
 
   pub listed_done : (never atom_never : Set) {w₂ : List ℕ} (w : List ℕ) → length w₂ ≡ length w₀ → absorbed_row (theory_of ws) ≡ accept → Passing ws never atom_never b w₂ w → Listed ws never atom_never b w₀ w (Ok (tt {0}))
   unfolding Listed
-  listed_done never atom_never w s e p = record { size = p.size ∙ s; row = e; flags = p.flags }
+  listed_done never atom_never w s e p = record { size = p.outside.size ∙ s; row = e; flags = p.flags }

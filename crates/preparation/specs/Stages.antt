@@ -1,18 +1,22 @@
--- What the words hold from stage to stage: the row tables, the body cone, the cyclic atoms, and after the pass the counts.
+-- What the words hold from stage to stage: the row tables, the body cone, the cyclic atoms, what a pass goes by, and after the pass the counts.
 use Rattle.std.specs.Prelude.{◌≡◌, cond, List, ℕ, ◌+◌, ◌<◌, length, Result, Ok, Err}
-use Rattle.theory.specs.Sets.{Set}
+use Rattle.theory.specs.Sets.{Set, any}
 use Rattle.theory.specs.Words.{theory_of}
 use Rattle.theory.specs.Edges.{body_cone}
-use Rattle.theory.specs.Founded.{cyclic, missing}
+use Rattle.theory.specs.Founded.{cyclic, cyclic_cone, missing}
+use Rattle.theory.specs.Roles.{Resting}
 use Rattle.refusals.specs.Answer.{accept}
 use Rattle.refusals.specs.Refusals.{absorbed_row}
 use Rattle.area.specs.declared.Bases.{Bases}
 use Rattle.area.specs.Layout.{Based}
-use Rattle.area.specs.Views.{mark_in, count_at, flag_at}
+use Rattle.area.specs.Views.{mark_in, count_at, flag_at, Outside}
 use Rattle.adjacency.specs.Tables.{rows_of, edges_of, base_of, next_of, Tabled}
 use Rattle.adjacency.specs.declared.Table.TheVariants.{ByHead}
 use Rattle.rows.specs.Rows.{Tables}
 use Rattle.cones.specs.declared.Absorbed.{Absorbed}
+use Rattle.cones.specs.declared.Cone.{Cone}
+use Rattle.cones.specs.Cones.{Held, fact_by}
+use Rattle.initialization.specs.Regions.{Flagged}
 use Rattle.preparation.specs.Flags.{Refused}
 
 -- the producers by head
@@ -45,7 +49,25 @@ unfoldable pub Staged : List ℕ → Bases → List ℕ → List ℕ → Result 
 Staged ws b w₀ w (Ok u) = Ready ws b w₀ w
 Staged ws b w₀ w (Err e) = Refused ws w₀ w e.node
 
--- the missing atoms are those that still wait
-pub record Passing (ws : List ℕ) (never atom_never : Set) (b : Bases) (w₀ w : List ℕ) : Type 0 where
+-- what stands where when a pass begins, for a set of marked atoms and a cone: the rows, a flag an atom, the cone's marks and its nodes, and the facts with a marked head
+pub record Standing (ws : List ℕ) (b : Bases) (marked cone : Set) (w : List ℕ) (c : Cone) : Type 0 where
+  pub based : Based ws (length w) b
+  pub tables : Tables (theory_of ws) b w
+  pub flagged : Flagged b w marked
+  pub coned : Held (theory_of ws) cone (fact_by (theory_of ws) (λ p. any marked ((theory_of ws).heads p))) b w c
+
+-- it stands for the cyclic atoms, and row 12 accepts
+pub record Stands (ws : List ℕ) (b : Bases) (w₀ w : List ℕ) (c : Cone) : Type 0 where
   pub size : length w ≡ length w₀
+  pub row : absorbed_row (theory_of ws) ≡ accept
+  pub standing : Standing ws b (cyclic (theory_of ws)) (cyclic_cone (theory_of ws)) w c
+
+unfoldable pub Stood : List ℕ → Bases → List ℕ → List ℕ → Result Cone Absorbed → Type 0
+Stood ws b w₀ w (Ok c) = Stands ws b w₀ w c
+Stood ws b w₀ w (Err e) = Refused ws w₀ w e.node
+
+-- the missing atoms are those that still wait, and what no pass waits for has a count of 0; counts and queue are written, nothing else
+pub record Passing (ws : List ℕ) (never atom_never : Set) (b : Bases) (w₀ w : List ℕ) : Type 0 where
+  pub outside : Outside b.dependencies b.body_nodes w₀ w
   pub flags : (a : ℕ) → a < b.atoms → count_at b w a ≡ cond (missing (theory_of ws) never atom_never a) 1 0
+  pub rests : Resting (theory_of ws) (cyclic (theory_of ws)) (cyclic_cone (theory_of ws)) (count_at b w)

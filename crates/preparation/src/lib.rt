@@ -1,16 +1,18 @@
-// Preparation and the pass on the work area: row tables, body cone, cyclic atoms; then the cyclic cone, start states and the worklist.
+// Preparation and the pass on the work area: row tables, body cone, cyclic atoms, cyclic cone; then start states and the worklist. What a pass goes by stands when it is over: many passes
+// can go by one preparation.
 #![tactic(auto)]
 
 ghost use Rattle.std.specs.Prelude.{length};
-ghost use Rattle.theory.specs.Words.{bit_at};
+ghost use Rattle.theory.specs.Words.{bit_at, theory_of};
+ghost use Rattle.theory.specs.Founded.{cyclic, cyclic_cone};
 ghost use Rattle.theory.specs.Accepted.{Accepted};
 ghost use Rattle.area.specs.Layout.{bases_of, Based};
 ghost use Rattle.preparation.specs.Flags.{Marked, Listed};
-ghost use Rattle.preparation.specs.Stages.{Rowed, Onward, Marking, Staged, Passing};
+ghost use Rattle.preparation.specs.Stages.{Rowed, Onward, Marking, Staged, Standing, Stood, Passing};
 
 use adjacency::Table;
 use area::Bases;
-use cones::Absorbed;
+use cones::{Absorbed, Cone};
 use finishing::NEW;
 use words::Word;
 
@@ -64,12 +66,27 @@ pub fn cyclic_atoms<W: Word>(graph: &[W], work: &mut [W], b: Bases) -> Result<()
     mark(graph, work)
 }
 
-// The pass: what is founded is settled.
-fn pass<W: Word>(graph: &[W], never: &[u64], atom_never: &[u64], work: &mut [W], b: Bases)
-    requires { Accepted W.edition (W.numbers graph.now) × Based (W.numbers graph.now) (length (W.numbers work.old)) b × Marking (W.numbers graph.now) b (W.numbers work.old) (W.numbers work.old) }
+// All that a pass goes by: the rows, the flags of the cyclic atoms, and the cyclic cone.
+pub fn stand<W: Word>(graph: &[W], work: &mut [W], b: Bases) -> Result<Cone, Absorbed>
+    requires { Accepted W.edition (W.numbers graph.now) × Based (W.numbers graph.now) (length (W.numbers work.old)) b }
+    ensures { Stood (W.numbers graph.now) b (W.numbers work.old) (W.numbers work.new) result }
+{
+    mark(graph, work)?;
+    Ok(cones::cyclic_cone(graph, work, b))
+}
+
+// The pass: what is founded is settled, and a missing atom still waits. Counts and queue are written, nothing else.
+pub fn pass<W: Word>(
+    graph: &[W],
+    never: &[u64],
+    atom_never: &[u64],
+    work: &mut [W],
+    b: Bases,
+    c: Cone,
+)
+    requires { Accepted W.edition (W.numbers graph.now) × Standing (W.numbers graph.now) b (cyclic (theory_of (W.numbers graph.now))) (cyclic_cone (theory_of (W.numbers graph.now))) (W.numbers work.old) c }
     ensures { Passing (W.numbers graph.now) (bit_at never.now) (bit_at atom_never.now) b (W.numbers work.old) (W.numbers work.new) }
 {
-    let c = cones::cyclic_cone(graph, work, b);
     let first = initialization::start(graph, never, atom_never, work, b, c.nodes, c.facts);
     events::settle_all(graph, work, first);
 }
@@ -85,7 +102,7 @@ pub fn missing<W: Word>(
     requires { Accepted W.edition (W.numbers graph.now) × Based (W.numbers graph.now) (length (W.numbers work.old)) b }
     ensures { Listed (W.numbers graph.now) (bit_at never.now) (bit_at atom_never.now) b (W.numbers work.old) (W.numbers work.new) result }
 {
-    mark(graph, work)?;
-    pass(graph, never, atom_never, work, b);
+    let c = stand(graph, work, b)?;
+    pass(graph, never, atom_never, work, b, c);
     Ok(())
 }

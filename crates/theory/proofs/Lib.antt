@@ -19,10 +19,12 @@ pub mod SearchLaws
 pub mod CollectLaws
 pub mod ConeLaws
 pub mod RowLaws
+pub mod ServeLaws
 pub mod PrefixLaws
 pub mod TurnedLaws
 pub mod StartingLaws
 pub mod PassStartLaws
+pub mod RoleLaws
 pub mod ClosedLaws
 pub mod AlikeLaws
 pub mod ContentLaws

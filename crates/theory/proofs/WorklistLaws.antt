@@ -1,7 +1,8 @@
--- A worklist, a step at a time: the start (`worklist_start`), beginning a row (`worklist_begin`), an entry of it (`entry_idle`, `entry_count`,
--- `entry_found`), and the end: what is found is the closure (`worklist_end`).
+-- A worklist, a step at a time: the start (`worklist_start`), beginning a row that serves (`worklist_begin`), an entry of it (`entry_idle`, `entry_count`,
+-- `entry_found`), and the end: what is found is the closure (`worklist_end`). Nothing dead is found (`found_live`).
 use mathlib.Core.Path.{◌≡◌, refl, sym, ap, ◌∙◌, subst}
 use mathlib.Core.Logic.{◌⊎◌, inl, inr, ◌≢◌}
+use mathlib.Core.Bool.{false}
 use mathlib.Core.List.Memᴰ
 use mathlib.Core.List.{List, [], ◌∷◌}
 use Prim.Native.Nat.{ℕ, suc, ◌+◌, ◌≤◌, ◌<◌}
@@ -10,13 +11,13 @@ use native.Mathlib.Decide.{ℕ_discrete}
 use lib.ListN.{length}
 use Rattle.theory.specs.Sets.{Is, Set, Mem, any, member}
 use Rattle.theory.specs.Counts.{count_in, occ}
-use Rattle.theory.specs.Closure.{Mode, dead, free, single, every, fired, closure}
-use Rattle.theory.specs.Worklist.{Started, Worklist}
+use Rattle.theory.specs.Closure.{Mode, dead, free, single, every, waiting, fired, closure}
+use Rattle.theory.specs.Worklist.{Started, Serves, Worklist}
 use Rattle.theory.proofs.SetLaws.{any_found, any_holds, all_at, all_holds, mem_member, member_mem, clash}
-use Rattle.theory.proofs.CountLaws.{occ_same, occ_other, count_le, count_all, count_full, member_more, pigeonhole}
+use Rattle.theory.proofs.CountLaws.{occ_same, occ_other, occ_mem, mem_occ, count_le, count_all, count_full, member_more, pigeonhole}
 use Rattle.theory.proofs.ClosureLaws.{closure_closed, closure_induct}
 
-none : (l : List ℕ) → count_in (λ u. member u []) l ≡ 0
+pub none : (l : List ℕ) → count_in (λ u. member u []) l ≡ 0
 unfolding count_in member any
 none [] = refl
 none (x ∷ l) = none l
@@ -45,8 +46,8 @@ module _ (b : ℕ) (mode : ℕ → Mode) (pred : ℕ → List ℕ) where
     begun = λ v m. absurd (Memᴰ.not-nil m);
     sound = λ v m. let f = (s.first v (s.low v m)).0 m in fires s v (s.low v m) f.0 f.1;
     ahead = λ v m. absurd (Memᴰ.not-nil m);
-    starts = λ v l e. (s.first v l).1 (s.free_count v l e, λ d. differ (sym e ∙ d));
-    once = λ v l e. let c = s.single_count v l e in omega arith;
+    starts = λ v l e. inl ((s.first v l).1 (s.free_count v l e, λ d. differ (sym e ∙ d)));
+    once = λ v l n. once v l n (mode v) refl;
     passed = λ u v l e m i. absurd (Memᴰ.not-nil i);
     tally = λ v l e. let c = s.every_count v l e in let n = none (pred v) in omega arith;
     idle = s.dead_count;
@@ -57,6 +58,12 @@ module _ (b : ℕ) (mode : ℕ → Mode) (pred : ℕ → List ℕ) where
       differ : free ≡ dead → ⊥
       differ e = let z : ◌≡◌ {A = ℕ} 0 1 = cc in omega arith
 
+      once : (v : ℕ) → v < b → (mode v ≡ every → ⊥) → (m : Mode) → mode v ≡ m → count v ≤ 1
+      once v l n dead e = let c = s.dead_count v l e in omega arith
+      once v l n free e = let c = s.free_count v l e in omega arith
+      once v l n single e = let c = s.single_count v l e in omega arith
+      once v l n every e = absurd (n e)
+
       found : (v : ℕ) → v < b → count v ≡ 0 → (m : Mode) → mode v ≡ m → Mem v order ⊎ (mode v ≡ dead)
       found v l z dead e = inr e
       found v l z free e = inl ((s.first v l).1 (z, λ d. let k : ◌≡◌ {A = ℕ} 0 1 = cc in omega arith))
@@ -65,20 +72,23 @@ module _ (b : ℕ) (mode : ℕ → Mode) (pred : ℕ → List ℕ) where
 
   -- ---- the row of a found vertex is begun
 
-  pub worklist_begin : {order done : List ℕ} {count : ℕ → ℕ} {u : ℕ} (row : List ℕ) → Worklist b mode pred order done [] count → Mem u order → (Mem u done → ⊥)
-      → ((v : ℕ) → v < b → occ v row ≡ occ u (pred v)) → ((v : ℕ) → Mem v row → (v < b) × Mem u (pred v)) → ((v : ℕ) → v < b → Mem u (pred v) → Mem v row)
-      → Worklist b mode pred order (u ∷ done) row count
-  unfolding count_in
-  worklist_begin {order} {done} {count} {u} row s m n turned from to = record {
+  pub found_live : {order done todo : List ℕ} {count : ℕ → ℕ} → Worklist b mode pred order done todo count → (v : ℕ) → Mem v order → mode v ≡ dead → ⊥
+  unfolding fired
+  found_live s v m e = closure_induct b mode pred (λ u. mode u ≡ dead → ⊥) (λ t ih u l p d. clash p (ap (λ (x : Mode). fired x t (pred u)) d)) v (s.sound v m) e
+
+  pub worklist_begin : {order done : List ℕ} {count : ℕ → ℕ} {u : ℕ} {row : List ℕ} → Worklist b mode pred order done [] count → Mem u order → (Mem u done → ⊥)
+      → Serves b mode pred u row → Worklist b mode pred order (u ∷ done) row count
+  unfolding count_in waiting
+  worklist_begin {order} {done} {count} {u} {row} s m n h = record {
     distinct = s.distinct;
     low = s.low;
     begun = λ v i. begun v (Memᴰ.cases_cons i);
     sound = s.sound;
-    ahead = λ v i. ((from v i).0, (u, Memᴰ.head refl, (from v i).1));
-    starts = s.starts;
+    ahead = λ v i. let k = h.leads v i in (k.0, inr (u, Memᴰ.head refl, k.1));
+    starts = λ v l e. left v (s.starts v l e);
     once = s.once;
     passed = λ w v l e k i. passed w v l e k (Memᴰ.cases_cons i);
-    tally = λ v l e. let t = s.tally v l e in let c = member_more u done n (pred v) in let q = turned v l in omega arith;
+    tally = λ v l e. let t = s.tally v l e in let c = member_more u done n (pred v) in let q = h.each v l (ap waiting e) in omega arith;
     idle = s.idle;
     found = s.found;
     spent = s.spent;
@@ -88,13 +98,16 @@ module _ (b : ℕ) (mode : ℕ → Mode) (pred : ℕ → List ℕ) where
       begun v (inl e) = subst (λ (z : ℕ). Mem z order) (sym e) m
       begun v (inr i) = s.begun v i
 
+      left : (v : ℕ) → Mem v order ⊎ Mem v [] → Mem v order ⊎ Mem v row
+      left v (inl o) = inl o
+      left v (inr o) = absurd (Memᴰ.not-nil o)
+
+      to : (v : ℕ) → v < b → mode v ≡ single → Mem u (pred v) → Mem v row
+      to v l e i = let q = h.each v l (ap waiting e) in let k = occ_mem i in mem_occ v row (omega arith)
+
       passed : (w v : ℕ) → v < b → mode v ≡ single → Mem w (pred v) → (w ≡ u) ⊎ Mem w done → Mem v order ⊎ Mem v row
-      passed w v l e k (inl q) = inr (to v l (subst (λ (z : ℕ). Mem z (pred v)) q k))
-      passed w v l e k (inr i) = go (s.passed w v l e k i)
-        where
-          go : Mem v order ⊎ Mem v [] → Mem v order ⊎ Mem v row
-          go (inl o) = inl o
-          go (inr o) = absurd (Memᴰ.not-nil o)
+      passed w v l e k (inl q) = inr (to v l e (subst (λ (z : ℕ). Mem z (pred v)) q k))
+      passed w v l e k (inr i) = left v (s.passed w v l e k i)
 
   -- ---- an entry of the row
 
@@ -126,22 +139,28 @@ module _ (b : ℕ) (mode : ℕ → Mode) (pred : ℕ → List ℕ) where
       begun = s.begun;
       sound = s.sound;
       ahead = λ x m. s.ahead x (Memᴰ.tail m);
-      starts = s.starts;
+      starts = λ x l e. settled x (λ d. differ (sym e ∙ d)) (s.starts x l e) (ℕ_discrete x v);
       once = s.once;
-      passed = λ u x l e m i. passed u x l e m i (ℕ_discrete x v);
+      passed = λ u x l e m i. settled x (λ d. apart (sym e ∙ d)) (s.passed u x l e m i) (ℕ_discrete x v);
       tally = λ x l e. tally x l e (ℕ_discrete x v);
       idle = s.idle;
       found = s.found;
       spent = s.spent;
     }
       where
-        here : mode v ≡ single → Mem v order ⊎ (mode v ≡ dead) → Mem v order
-        here e (inl o) = o
-        here e (inr d) = let k : ◌≡◌ {A = ℕ} 0 1 = cc in absurd (omega arith)
+        differ : free ≡ dead → ⊥
+        differ e = let k : ◌≡◌ {A = ℕ} 0 1 = cc in omega arith
 
-        passed : (u x : ℕ) → x < b → mode x ≡ single → Mem u (pred x) → Mem u done → Dec (x ≡ v) → Mem x order ⊎ Mem x todo
-        passed u x l e m i (yes q) = inl (subst (λ (z : ℕ). Mem z order) (sym q) (here (sym (ap mode q) ∙ e) (s.found v entry_low z)))
-        passed u x l e m i (no n) = later x n (s.passed u x l e m i)
+        apart : single ≡ dead → ⊥
+        apart e = let k : ◌≡◌ {A = ℕ} 0 1 = cc in omega arith
+
+        here : (mode v ≡ dead → ⊥) → Mem v order ⊎ (mode v ≡ dead) → Mem v order
+        here n (inl o) = o
+        here n (inr d) = absurd (n d)
+
+        settled : (x : ℕ) → (mode x ≡ dead → ⊥) → Mem x order ⊎ Mem x (v ∷ todo) → Dec (x ≡ v) → Mem x order ⊎ Mem x todo
+        settled x n m (yes q) = inl (subst (λ (z : ℕ). Mem z order) (sym q) (here (λ d. n (ap mode q ∙ d)) (s.found v entry_low z)))
+        settled x n m (no q) = later x q m
 
         tally : (x : ℕ) → x < b → mode x ≡ every → Dec (x ≡ v) → count x + count_in (λ u. member u done) (pred x) ≡ length (pred x) + occ x todo
         tally x l e (yes q) = let w = every_waits (sym (ap mode q) ∙ e) in absurd (omega arith)
@@ -168,8 +187,8 @@ module _ (b : ℕ) (mode : ℕ → Mode) (pred : ℕ → List ℕ) where
       idle x l e (yes q) = let z = s.idle v entry_low (sym (ap mode q) ∙ e) in absurd (omega arith)
       idle x l e (no n) = others x l n ∙ s.idle x l e
 
-      once : (x : ℕ) → x < b → mode x ≡ single → Dec (x ≡ v) → count' x ≤ 1
-      once x l e (yes q) = let z = s.once v entry_low (sym (ap mode q) ∙ e) in let k = ap count' q in omega arith
+      once : (x : ℕ) → x < b → (mode x ≡ every → ⊥) → Dec (x ≡ v) → count' x ≤ 1
+      once x l e (yes q) = let z = s.once v entry_low (λ d. e (ap mode q ∙ d)) in let k = ap count' q in omega arith
       once x l e (no n) = let k = others x l n in let z = s.once x l e in omega arith
 
       spent : (x : ℕ) → Mem x order → count' x ≡ 0
@@ -187,17 +206,24 @@ module _ (b : ℕ) (mode : ℕ → Mode) (pred : ℕ → List ℕ) where
         begun = s.begun;
         sound = s.sound;
         ahead = λ x m. s.ahead x (Memᴰ.tail m);
-        starts = s.starts;
+        starts = λ x l e. later x (other x (λ d. differ (sym e ∙ d))) (s.starts x l e);
         once = λ x l e. once x l e (ℕ_discrete x v);
-        passed = λ u x l e m i. later x (other x e) (s.passed u x l e m i);
+        passed = λ u x l e m i. later x (other x (λ d. apart (sym e ∙ d))) (s.passed u x l e m i);
         tally = λ x l e. tally x l e (ℕ_discrete x v);
         idle = λ x l e. idle x l e (ℕ_discrete x v);
         found = λ x l z. found x l z (ℕ_discrete x v);
         spent = spent;
       }
         where
-          other : (x : ℕ) → mode x ≡ single → x ≢ v
-          other x e q = let z = s.once v entry_low (sym (ap mode q) ∙ e) in omega arith
+          differ : free ≡ every → ⊥
+          differ e = let k : ◌≡◌ {A = ℕ} 0 1 = cc in omega arith
+
+          apart : single ≡ every → ⊥
+          apart e = let k : ◌≡◌ {A = ℕ} 0 1 = cc in omega arith
+
+          -- it waits for more than one
+          other : (x : ℕ) → (mode x ≡ every → ⊥) → x ≢ v
+          other x n q = let z = s.once v entry_low (λ d. n (ap mode q ∙ d)) in omega arith
 
           found : (x : ℕ) → x < b → count' x ≡ 0 → Dec (x ≡ v) → Mem x order ⊎ (mode x ≡ dead)
           found x l z (yes q) = let k = ap count' q in absurd (omega arith)
@@ -205,14 +231,14 @@ module _ (b : ℕ) (mode : ℕ → Mode) (pred : ℕ → List ℕ) where
 
       -- the last one: v is found
       pub entry_found : count' v ≡ 0 → Worklist b mode pred (v ∷ order) done todo count'
-      unfolding fired
+      unfolding fired waiting
       entry_found h = record {
         distinct = (fresh, s.distinct);
         low = λ x m. low x (Memᴰ.cases_cons m);
         begun = λ x m. Memᴰ.tail (s.begun x m);
         sound = λ x m. sound x (Memᴰ.cases_cons m);
         ahead = λ x m. s.ahead x (Memᴰ.tail m);
-        starts = λ x l e. Memᴰ.tail (s.starts x l e);
+        starts = λ x l e. passed x (ℕ_discrete x v) (s.starts x l e);
         once = λ x l e. once x l e (ℕ_discrete x v);
         passed = λ u x l e m i. passed x (ℕ_discrete x v) (s.passed u x l e m i);
         tally = λ x l e. tally x l e (ℕ_discrete x v);
@@ -228,7 +254,11 @@ module _ (b : ℕ) (mode : ℕ → Mode) (pred : ℕ → List ℕ) where
           by : (m : Mode) → mode v ≡ m → Is (fired m (closure b mode pred) (pred v))
           by dead e = let z = s.idle v entry_low e in absurd (omega arith)
           by free e = refl
-          by single e = let a = (s.ahead v (Memᴰ.head refl)).1 in any_holds (closure b mode pred) a.2 (s.sound a.0 (s.begun a.0 a.1))
+          by single e = some ((s.ahead v (Memᴰ.head refl)).1)
+            where
+              some : (waiting (mode v) ≡ false) ⊎ ((u : ℕ) × Mem u done × Mem u (pred v)) → Is (any (closure b mode pred) (pred v))
+              some (inl w) = clash (ap waiting e) w
+              some (inr a) = any_holds (closure b mode pred) a.2 (s.sound a.0 (s.begun a.0 a.1))
           by every e =
               all_holds (closure b mode pred) (pred v)
               (λ x m. s.sound x (s.begun x (member_mem x done (count_full (λ u. member u done) (pred v) full m))))
@@ -266,14 +296,14 @@ module _ (b : ℕ) (mode : ℕ → Mode) (pred : ℕ → List ℕ) where
   unfolding fired count_in
   worklist_end {order} {count} s = closure_induct b mode pred (λ v. Mem v order) step
     where
+      went : (v : ℕ) → Mem v order ⊎ Mem v [] → Mem v order
+      went v (inl m) = m
+      went v (inr m) = absurd (Memᴰ.not-nil m)
+
       by : (t : Set) → ((v : ℕ) → Is (t v) → Mem v order) → (v : ℕ) → v < b → (m : Mode) → mode v ≡ m → Is (fired m t (pred v)) → Mem v order
       by t ih v l dead e q = clash q refl
-      by t ih v l free e q = s.starts v l e
-      by t ih v l single e q = let r = any_found t (pred v) q in go (s.passed r.0 v l e r.1 (ih r.0 r.2))
-        where
-          go : Mem v order ⊎ Mem v [] → Mem v order
-          go (inl m) = m
-          go (inr m) = absurd (Memᴰ.not-nil m)
+      by t ih v l free e q = went v (s.starts v l e)
+      by t ih v l single e q = let r = any_found t (pred v) q in went v (s.passed r.0 v l e r.1 (ih r.0 r.2))
       by t ih v l every e q =
           let c = count_all (λ u. member u order) (pred v) (λ u m. mem_member (ih u (all_at t q m))) in
           let k = s.tally v l e in

@@ -7,6 +7,13 @@ use Rattle.theory.specs.Least.{has, least}
 pub data Mode : Type 0 where
   dead free single every : Mode
 
+-- whether a vertex waits for predecessors
+unfoldable pub waiting : Mode → Bool
+waiting dead = false
+waiting free = false
+waiting single = true
+waiting every = true
+
 unfoldable pub fired : Mode → Set → List ℕ → Bool
 fired dead s l = false
 fired free s l = true

@@ -20,5 +20,6 @@ pub mod Components
 pub mod Search
 pub mod Prefix
 pub mod Starting
+pub mod Roles
 pub mod Alike
 pub mod Content
