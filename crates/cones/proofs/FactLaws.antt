@@ -1,6 +1,6 @@
--- The members of a set below a bound: the next number is one (`members_in`) or is none (`members_out`). The facts that a cone lists are the producers in
+-- The members of a set below a bound: the next number is one (`members_in`) or is none (`members_out`); sets that agree below it have the same (`members_agree`). The facts that a cone lists are the producers in
 -- the set, and no others (`fact_mem`).
-use mathlib.Core.Path.{◌≡◌, sym, ap, subst}
+use mathlib.Core.Path.{◌≡◌, refl, sym, ap, subst}
 use mathlib.Core.Logic.{◌⊎◌, inl, inr, ◌↔◌}
 use mathlib.Core.Bool.{Bool, true, false, cond}
 use mathlib.Core.List.Memᴰ
@@ -24,6 +24,12 @@ members_in p s h = rw add-one (ap (λ (t : Bool). cond t (members p s ++ (p ∷ 
 pub members_out : (p : ℕ) (s : Set) → s p ≡ false → members (p + 1) s ≡ members p s
 unfolding members
 members_out p s h = rw add-one (ap (λ (t : Bool). cond t (members p s ++ (p ∷ [])) (members p s)) h)
+
+-- sets that agree below the bound have the same members
+pub members_agree : (n : ℕ) (s t : Set) → ((x : ℕ) → x < n → s x ≡ t x) → members n s ≡ members n t
+unfolding members
+members_agree zero s t h = refl
+members_agree (suc n) s t h = rw (h n (omega arith), members_agree n s t (λ x l. h x (omega arith))) refl
 
 -- a number below the bound is a member exactly if it is in the set
 pub members_mem : (n : ℕ) (s : Set) (x : ℕ) → Mem x (members n s) ↔ ((x < n) × Is (s x))

@@ -8,13 +8,14 @@ use Rattle.refusals.specs.Search.{First}
 use Rattle.refusals.proofs.SearchLaws.{row_refuses, row_passes}
 use Rattle.area.specs.declared.Bases.{Bases}
 use Rattle.std.specs.Prelude.{Ok, Err}
-use Rattle.cones.specs.Cones.{Found, body_coned}
+use Rattle.cones.specs.declared.Cone.{Cone}
+use Rattle.cones.specs.Cones.{headed, fact_by, Held, body_coned}
 
 module _ (th : Theory) (b : Bases) (w : List ℕ) where
   pub refuse_at : {n : ℕ} → n < th.nodes → First (absorbed_node th) 0 th.nodes n → body_coned th b w (Err (record { node = n }))
   unfolding body_coned
   refuse_at l f = row_refuses (absorbed_node th) 12 0 th.nodes f (omega arith) l
 
-  pub refuse_none : {count : ℕ} → Found th (body_cone th) b w count → First (absorbed_node th) 0 th.nodes th.nodes → body_coned th b w (Ok count)
+  pub refuse_none : {c : Cone} → Held th (body_cone th) (fact_by th (headed th)) b w c → First (absorbed_node th) 0 th.nodes th.nodes → body_coned th b w (Ok c)
   unfolding body_coned
-  refuse_none f none = (f, row_passes (absorbed_node th) 12 0 th.nodes none (omega arith) (omega arith))
+  refuse_none h none = (h, row_passes (absorbed_node th) 12 0 th.nodes none (omega arith) (omega arith))

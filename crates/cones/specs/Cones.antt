@@ -57,9 +57,9 @@ pub record Held (th : Theory) (s facts : Set) (b : Bases) (w : List ℕ) (c : Co
   pub few : c.facts ≤ th.producers
   pub lists : facts_of b w c.facts ≡ members th.producers facts
 
--- the body cone, where row 12 accepts; or the node that it refuses
-unfoldable pub body_coned : Theory → Bases → List ℕ → Result ℕ Absorbed → Type 0
-body_coned th b w (Ok count) = Found th (body_cone th) b w count × (absorbed_row th ≡ accept)
+-- the body cone and the facts with a head, where row 12 accepts; or the node that it refuses
+unfoldable pub body_coned : Theory → Bases → List ℕ → Result Cone Absorbed → Type 0
+body_coned th b w (Ok c) = Held th (body_cone th) (fact_by th (headed th)) b w c × (absorbed_row th ≡ accept)
 body_coned th b w (Err e) = absorbed_row th ≡ refuse 12 e.node
 
 -- the cyclic cone, and the facts with a cyclic head

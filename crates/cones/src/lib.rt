@@ -219,15 +219,15 @@ fn first_refused<W: Word>(graph: &[W], work: &[W], b: Bases) -> Option<usize>
     first(0, b.nodes, |n| refused_at(graph, work, b, n))
 }
 
-// The body cone (document 01: the first cone).
-pub fn body_cone<W: Word>(graph: &[W], work: &mut [W], b: Bases) -> Result<usize, Absorbed>
+// The body cone (document 01: the first cone), with the facts that have a head.
+pub fn body_cone<W: Word>(graph: &[W], work: &mut [W], b: Bases) -> Result<Cone, Absorbed>
     requires { Accepted W.edition (W.numbers graph.now) × Based (W.numbers graph.now) (length (W.numbers work.old)) b }
     ensures { Kept b (W.numbers work.old) (W.numbers work.new) × body_coned (theory_of (W.numbers graph.now)) b (W.numbers work.new) result }
 {
     let c = find(graph, work, Headed);
     match first_refused(graph, work, b) {
         Some(node) => Err(Absorbed { node }),
-        None => Ok(c.nodes),
+        None => Ok(c),
     }
 }
 

@@ -7,20 +7,18 @@ use native.Mathlib.Omega.{arith}
 use lib.Dec.{ltb}
 use lib.ListN.{length, get_or}
 use borrow.Author.Tests.{lt-ltb}
-use Rattle.theory.specs.Sets.{Set, Is, everyone, any}
+use Rattle.theory.specs.Sets.{Set, Is, everyone}
 use Rattle.theory.specs.Edges.{preds}
 use Rattle.theory.specs.Theory.{Kind, False, Atom, And, Or, Opaque, Absorbed}
 use Rattle.theory.specs.Closure.{Mode, dead, free, single, every}
-use Rattle.theory.specs.Founded.{cyclic, cyclic_cone}
 use Rattle.theory.specs.Words.{theory_of}
 use Rattle.theory.specs.Accepted.{Edition, Accepted}
-use Rattle.theory.specs.Pass.{live, kind_mode, node_mode_among, node_mode, pass_mode}
+use Rattle.theory.specs.Pass.{live, kind_mode, node_mode_among, pass_mode_among}
 use Rattle.theory.specs.Starting.{waits}
 use Rattle.theory.proofs.SetLaws.{clash}
 use Rattle.theory.proofs.CountLaws.{sum_one}
-use Rattle.theory.proofs.EdgeLaws.{cone_bound}
-use Rattle.theory.proofs.PassLaws.{mode_node}
-use Rattle.theory.proofs.PassStartLaws.{node_waits}
+use Rattle.theory.proofs.PassLaws.{node_among}
+use Rattle.theory.proofs.PassStartLaws.{among_waits}
 use Rattle.graph.specs.Kinds.{takes_operand, waits_for_one, waits_for_all, starts_true}
 use Rattle.graph.specs.Layout.{NodeIn}
 use Rattle.area.specs.declared.Bases.{Bases}
@@ -30,7 +28,7 @@ use Rattle.initialization.specs.declared.Initial.TheVariants.{Inactive, Awaiting
 use Rattle.initialization.specs.Start.{initial_of, initial_at}
 
 -- what an uncut node waits for, by its kind's row in the table
-abbrev by_table : (starts operand one all : Bool) → (cyclic cut : Bool) → Mode
+abbrev by_table : (starts operand one all : Bool) → (marked cut : Bool) → Mode
 by_table starts operand one all m c = cond starts free (cond operand (kind_mode Atom m c) (cond one single (cond all every dead)))
 
 by_table_lem : (k : Kind) (m c : Bool) → kind_mode k m c ≡ by_table (starts_true k) (takes_operand k) (waits_for_one k) (waits_for_all k) m c
@@ -56,21 +54,21 @@ on true true true m p q r = clash refl r
 on true false z m p q r = clash q refl
 on false y z m p q r = clash p refl
 
-pub initial_cut : (ws : List ℕ) (never atom_never : Set) (n : ℕ) → Is (never n) → Inactive ≡ initial_at ws never atom_never n
+pub initial_cut : (ws : List ℕ) (marked cone never atom_never : Set) (n : ℕ) → Is (never n) → Inactive ≡ initial_at ws marked cone never atom_never n
 unfolding node_mode_among initial_of
-initial_cut ws never atom_never n h =
-    sym (ap (λ (m : Mode). initial_of m (length ((theory_of ws).leaves n))) (off (ltb n (theory_of ws).nodes) (cyclic_cone (theory_of ws) n) (never n) _ h))
+initial_cut ws marked cone never atom_never n h =
+    sym (ap (λ (m : Mode). initial_of m (length ((theory_of ws).leaves n))) (off (ltb n (theory_of ws).nodes) (cone n) (never n) _ h))
 
 -- ---- what an accepted graph says of a node of the cone
 
-module _ {ed : Edition} {ws : List ℕ} (acc : Accepted ed ws) (n : ℕ) where
-  pub cone_node : Is (cyclic_cone (theory_of ws) n) → NodeIn ws n
-  unfolding cyclic_cone theory_of
-  cone_node i = record { size = acc.size; below = cone_bound (theory_of ws) (λ p. any (cyclic (theory_of ws)) ((theory_of ws).heads p)) n i }
+module _ {ed : Edition} {ws : List ℕ} (acc : Accepted ed ws) (n : ℕ) (low : n < (theory_of ws).nodes) where
+  pub cone_node : NodeIn ws n
+  unfolding theory_of
+  cone_node = record { size = acc.size; below = low }
 
-  pub operand_in : Is (cyclic_cone (theory_of ws) n) → takes_operand ((theory_of ws).kind n) ≡ true → (theory_of ws).operand n < (theory_of ws).atoms
+  pub operand_in : takes_operand ((theory_of ws).kind n) ≡ true → (theory_of ws).operand n < (theory_of ws).atoms
   unfolding takes_operand theory_of
-  operand_in i o = acc.well_formed.operand_low n (cone_node i).below (go ((theory_of ws).kind n) o)
+  operand_in o = acc.well_formed.operand_low n low (go ((theory_of ws).kind n) o)
     where
       go : (k : Kind) → takes_operand k ≡ true → k ≡ Atom
       go False q = clash q refl
@@ -80,18 +78,18 @@ module _ {ed : Edition} {ws : List ℕ} (acc : Accepted ed ws) (n : ℕ) where
       go Opaque q = clash q refl
       go Absorbed q = clash q refl
 
-  pub leaves_few : Is (cyclic_cone (theory_of ws) n) → length ((theory_of ws).leaves n) ≤ ed.entries
+  pub leaves_few : length ((theory_of ws).leaves n) ≤ ed.entries
   unfolding theory_of
-  leaves_few i = let h = sum_one (get_or ws 2 0) (λ m. length ((theory_of ws).leaves m)) n (cone_node i).below in let k = acc.leaf_total in omega arith
+  leaves_few = let h = sum_one (get_or ws 2 0) (λ m. length ((theory_of ws).leaves m)) n low in let k = acc.leaf_total in omega arith
 
   -- by the kind table, for an uncut node whose kind is k
-  pub initial_uncut : Is (cyclic_cone (theory_of ws) n) → (never atom_never : Set) → never n ≡ false → {k : Kind} → k ≡ (theory_of ws).kind n → {starts operand one all : Bool}
+  pub initial_uncut : (marked cone : Set) → Is (cone n) → (never atom_never : Set) → never n ≡ false → {k : Kind} → k ≡ (theory_of ws).kind n → {starts operand one all : Bool}
       → starts_true k ≡ starts → takes_operand k ≡ operand → waits_for_one k ≡ one → waits_for_all k ≡ all
-      → initial_of (by_table starts operand one all (cyclic (theory_of ws) ((theory_of ws).operand n)) (atom_never ((theory_of ws).operand n))) (length ((theory_of ws).leaves n)) ≡ initial_at ws never atom_never n
+      → initial_of (by_table starts operand one all (marked ((theory_of ws).operand n)) (atom_never ((theory_of ws).operand n))) (length ((theory_of ws).leaves n)) ≡ initial_at ws marked cone never atom_never n
   unfolding node_mode_among theory_of
-  initial_uncut i never atom_never u e s o q a =
+  initial_uncut marked cone i never atom_never u e s o q a =
       ap (λ (m : Mode). initial_of m (length ((theory_of ws).leaves n)))
-      (sym (on (ltb n (theory_of ws).nodes) (cyclic_cone (theory_of ws) n) (never n) _ (lt-ltb n _ (cone_node i).below) i u
+      (sym (on (ltb n (theory_of ws).nodes) (cone n) (never n) _ (lt-ltb n _ low) i u
       ∙ rw (sym e) (by_table_lem _ _ _ ∙ rw (s, o, q, a) refl)))
 
 -- ---- what the start state says
@@ -126,10 +124,10 @@ few single n = omega arith
 few every n = omega arith
 
 -- of the vertex that a node of the cone of an accepted graph is; i: its start state
-module _ {ed : Edition} {ws : List ℕ} (acc : Accepted ed ws) (never atom_never : Set) {b : Bases} {words : ℕ} (base : Based ws words b) (n : ℕ) (cone : Is (cyclic_cone (theory_of ws) n))
-    {i : Initial} (is : i ≡ initial_at ws never atom_never n) where
+module _ {ed : Edition} {ws : List ℕ} (acc : Accepted ed ws) (marked cone never atom_never : Set) {b : Bases} {words : ℕ} (base : Based ws words b) (n : ℕ) (low : n < (theory_of ws).nodes)
+    {i : Initial} (is : i ≡ initial_at ws marked cone never atom_never n) where
   abbrev mode : Mode
-  mode = pass_mode (theory_of ws) (cyclic_cone (theory_of ws)) never atom_never (b.atoms + n)
+  mode = pass_mode_among (theory_of ws) marked cone never atom_never (b.atoms + n)
 
   abbrev due : ℕ
   due = waits mode (length (preds (theory_of ws) everyone (b.atoms + n)))
@@ -138,12 +136,12 @@ module _ {ed : Edition} {ws : List ℕ} (acc : Accepted ed ws) (never atom_never
   unfolding theory_of
   vertex = let e = base.atoms in omega arith
 
-  same_mode : mode ≡ node_mode (theory_of ws) (cyclic_cone (theory_of ws)) never atom_never n
-  same_mode = rw vertex (mode_node (theory_of ws) (cyclic_cone (theory_of ws)) never atom_never n)
+  same_mode : mode ≡ node_mode_among (theory_of ws) marked cone never atom_never n
+  same_mode = rw vertex (node_among (theory_of ws) marked cone never atom_never n)
 
-  same_waits : due ≡ waits (node_mode (theory_of ws) (cyclic_cone (theory_of ws)) never atom_never n) (length ((theory_of ws).leaves n))
+  same_waits : due ≡ waits (node_mode_among (theory_of ws) marked cone never atom_never n) (length ((theory_of ws).leaves n))
   unfolding theory_of
-  same_waits = rw vertex (node_waits (theory_of ws) (cyclic_cone (theory_of ws)) never atom_never n (cone_node acc n cone).below)
+  same_waits = rw vertex (among_waits (theory_of ws) marked cone never atom_never n low)
 
   pub told_dead : i ≡ Inactive → mode ≡ dead
   told_dead e = same_mode ∙ initial_dead _ _ (sym is ∙ e)
@@ -158,6 +156,6 @@ module _ {ed : Edition} {ws : List ℕ} (acc : Accepted ed ws) (never atom_never
   told_fits {k} e =
       let r : due ≡ k = (told_waits e).0 in
       let s = same_waits in
-      let f = few (node_mode (theory_of ws) (cyclic_cone (theory_of ws)) never atom_never n) (length ((theory_of ws).leaves n)) in
-      let h = leaves_few acc n cone in
+      let f = few (node_mode_among (theory_of ws) marked cone never atom_never n) (length ((theory_of ws).leaves n)) in
+      let h = leaves_few acc n low in
       omega arith

@@ -23,11 +23,11 @@ module _ {b : Bases} (laid : Laid b) (w w' : List ℕ) (e : drop b.body_nodes w'
   facts_same : (facts : ℕ) → fact_rows b w' facts ≡ fact_rows b w facts
   facts_same facts = ap (upto facts) (behind_more b.body_nodes w w' e b.fact_rows (omega arith))
 
-  pub prepared_kept : {ws : List ℕ} {nodes facts : ℕ} → Prepared ws b w nodes facts → Prepared ws b w' nodes facts
+  pub prepared_kept : {ws : List ℕ} {nodes facts : ℕ} {marked cone : Set} → Prepared ws b w nodes facts marked cone → Prepared ws b w' nodes facts marked cone
   prepared_kept {nodes = nodes} {facts = facts} p = record {
     flagged = flagged_kept p.flagged;
     nodes_few = p.nodes_few;
-    cone = rw (cone_same nodes) p.cone;
+    listed = rw (cone_same nodes) p.listed;
     facts_few = p.facts_few;
     stated = rw (facts_same facts) p.stated;
   }

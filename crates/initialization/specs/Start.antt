@@ -3,11 +3,10 @@ use Rattle.std.specs.Prelude.{◌≡◌, List, [], ℕ, ◌+◌, ◌≤◌, ◌<
 use Rattle.theory.specs.Sets.{Set, Is, everyone, Mem}
 use Rattle.theory.specs.Edges.{vertices, preds}
 use Rattle.theory.specs.Closure.{Mode, dead, free, single, every}
-use Rattle.theory.specs.Founded.{cyclic, cyclic_cone}
 use Rattle.theory.specs.Words.{theory_of}
 use Rattle.theory.specs.Rows.{flat_map}
 use Rattle.theory.specs.Accepted.{Edition, Accepted}
-use Rattle.theory.specs.Pass.{node_mode, pass_mode}
+use Rattle.theory.specs.Pass.{node_mode_among, pass_mode_among}
 use Rattle.theory.specs.Starting.{first_count, Starting}
 use Rattle.area.specs.declared.Bases.{Bases}
 use Rattle.area.specs.Layout.{Laid, Based}
@@ -24,8 +23,8 @@ initial_of single n = Awaiting 1
 initial_of every n = Awaiting n
 
 -- that of node n
-abbrev pub initial_at : (ws : List ℕ) (never atom_never : Set) → ℕ → Initial
-initial_at ws never atom_never n = initial_of (node_mode (theory_of ws) (cyclic_cone (theory_of ws)) never atom_never n) (length ((theory_of ws).leaves n))
+abbrev pub initial_at : (ws : List ℕ) (marked cone never atom_never : Set) → ℕ → Initial
+initial_at ws marked cone never atom_never n = initial_of (node_mode_among (theory_of ws) marked cone never atom_never n) (length ((theory_of ws).leaves n))
 
 -- the counts below v are filled, whatever set is flagged
 pub record Filled (b : Bases) (cut : Set) (w w' : List ℕ) (v : ℕ) : Type 0 where
@@ -58,27 +57,34 @@ pub record AtFacts (ed : Edition) (lim : ℕ) (ws : List ℕ) (b : Bases) (c : C
   pub low : (p : ℕ) → Mem p facts → p < (theory_of ws).producers
   pub at : Fitting lim b c w t (flat_map (theory_of ws).heads facts)
 
+-- what the walk over the nodes goes by: the marked atoms, the cone, and the words behind the queue
+pub record Coning : Type 0 where
+  pub marked : Set
+  pub cone : Set
+  pub behind : List ℕ
+
 -- the context of a graph's pass
-abbrev pub pass_context : (ws : List ℕ) (never atom_never : Set) (nodes behind : List ℕ) → Context
-pass_context ws never atom_never nodes behind = record {
+abbrev pub pass_context : (ws : List ℕ) (never atom_never : Set) (k : Coning) (nodes : List ℕ) → Context
+pass_context ws never atom_never k nodes = record {
   bound = vertices (theory_of ws);
-  mode = pass_mode (theory_of ws) (cyclic_cone (theory_of ws)) never atom_never;
+  mode = pass_mode_among (theory_of ws) k.marked k.cone never atom_never;
   pred = preds (theory_of ws) everyone;
   nodes = nodes;
-  behind = behind;
+  behind = k.behind;
 }
 
 -- t vertices are found, every head of a fact is met, and these nodes are still to be started
-pub record AtNodes (ws : List ℕ) (never atom_never : Set) (b : Bases) (behind w : List ℕ) (t : ℕ) (nodes : List ℕ) : Type 0 where
-  pub at : At b (pass_context ws never atom_never nodes behind) w t []
+pub record AtNodes (ws : List ℕ) (never atom_never : Set) (b : Bases) (k : Coning) (w : List ℕ) (t : ℕ) (nodes : List ℕ) : Type 0 where
+  pub at : At b (pass_context ws never atom_never k nodes) w t []
 
 -- the same of nodes of the cone, with what is read to start one: the graph, and the flags
-pub record AtCone (ed : Edition) (ws : List ℕ) (never atom_never : Set) (b : Bases) (behind w : List ℕ) (t : ℕ) (nodes : List ℕ) : Type 0 where
+pub record AtCone (ed : Edition) (ws : List ℕ) (never atom_never : Set) (b : Bases) (k : Coning) (w : List ℕ) (t : ℕ) (nodes : List ℕ) : Type 0 where
   pub accepted : Accepted ed ws
   pub based : Based ws (length w) b
-  pub flagged : Flagged b w (cyclic (theory_of ws))
-  pub cone : (n : ℕ) → Mem n nodes → Is (cyclic_cone (theory_of ws) n)
-  pub at : AtNodes ws never atom_never b behind w t (as_vertices b nodes)
+  pub flagged : Flagged b w k.marked
+  pub low : (n : ℕ) → Is (k.cone n) → n < (theory_of ws).nodes
+  pub cone : (n : ℕ) → Mem n nodes → Is (k.cone n)
+  pub at : AtNodes ws never atom_never b k w t (as_vertices b nodes)
 
 -- whatever is done in a context, the words from a place on stay
 abbrev pub Stays : {Ctx : Type 0} → (Ctx → List ℕ → ℕ → List ℕ → Type 0) → ℕ → Type 0

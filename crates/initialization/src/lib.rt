@@ -5,7 +5,6 @@
 ghost use Rattle.std.specs.Prelude.{◌≡◌, [], List, ℕ, ◌+◌, ◌<◌, ◌≤◌, length, drop, set};
 ghost use Rattle.theory.specs.Sets.{Set, Is};
 ghost use Rattle.theory.specs.Theory.{Atom};
-ghost use Rattle.theory.specs.Founded.{cyclic, cyclic_cone};
 ghost use Rattle.theory.specs.Words.{bit_at, theory_of};
 ghost use Rattle.theory.specs.Prefix.{upto};
 ghost use Rattle.theory.specs.Accepted.{Accepted};
@@ -14,7 +13,7 @@ ghost use Rattle.theory.specs.Pass.{kind_mode};
 ghost use Rattle.theory.specs.Starting.{first_count};
 ghost use Rattle.area.specs.Layout.{Laid, Based};
 ghost use Rattle.initialization.specs.Regions.{Flagged, Prepared, Begun};
-ghost use Rattle.initialization.specs.Start.{initial_of, initial_at, Filled, Context, Fitting, AtFacts, AtCone, Stays};
+ghost use Rattle.initialization.specs.Start.{initial_of, initial_at, Filled, Context, Fitting, AtFacts, Coning, AtCone, Stays};
 
 use area::Bases;
 use chains::Step;
@@ -136,9 +135,9 @@ impl<W: Word> Nodes<'_, W> {
 
     // The start state of a node of the cone, by the kind table.
     fn read(self, work: &[W], n: usize) -> Initial
-        requires accepted { Accepted W.edition (W.numbers self.graph.now) × Based (W.numbers self.graph.now) (length (W.numbers work.now)) self.bases × Flagged self.bases (W.numbers work.now) (cyclic (theory_of (W.numbers self.graph.now))) }
-        requires is { Is (cyclic_cone (theory_of (W.numbers self.graph.now)) n) }
-        ensures { result ≡ initial_at (W.numbers self.entry.graph.now) (bit_at self.entry.never.now) (bit_at self.entry.atom_never.now) n }
+        requires accepted { Accepted W.edition (W.numbers self.graph.now) × Based (W.numbers self.graph.now) (length (W.numbers work.now)) self.bases }
+        requires low { n < (theory_of (W.numbers self.graph.now)).nodes }
+        ensures { (marked cone : Set) → Flagged self.entry.bases (W.numbers work.now) marked → Is (cone n) → result ≡ initial_at (W.numbers self.entry.graph.now) marked cone (bit_at self.entry.never.now) (bit_at self.entry.atom_never.now) n }
     {
         if mask::bit(self.never, n) {
             return Initial::Inactive;
@@ -161,7 +160,7 @@ impl<W: Word> Nodes<'_, W> {
 }
 
 impl<W: Word> Step<W> for Nodes<'_, W> {
-    ghost Context = { List ℕ };
+    ghost Context = { Coning };
 
     ghost held = { λ it. AtCone W.edition (W.numbers it.graph.now) (bit_at it.never.now) (bit_at it.atom_never.now) it.bases };
 
@@ -213,8 +212,8 @@ pub fn start<W: Word>(
     nodes: usize,
     facts: usize,
 ) -> usize
-    requires { Accepted W.edition (W.numbers graph.now) × Based (W.numbers graph.now) (length (W.numbers work.old)) b × Prepared (W.numbers graph.now) b (W.numbers work.old) nodes facts }
-    ensures { Begun (W.numbers graph.now) (bit_at never.now) (bit_at atom_never.now) b (W.numbers work.old) (W.numbers work.new) result }
+    requires { Accepted W.edition (W.numbers graph.now) × Based (W.numbers graph.now) (length (W.numbers work.old)) b × (marked : Set) × (cone : Set) × Prepared (W.numbers graph.now) b (W.numbers work.old) nodes facts marked cone }
+    ensures { Begun (W.numbers graph.now) (bit_at never.now) (bit_at atom_never.now) b (W.numbers work.old) (W.numbers work.new) nodes facts result }
 {
     first_counts(atom_never, work, b);
     let tail = backwards(work, Facts { graph, bases: b }, b.fact_rows, facts, 0);

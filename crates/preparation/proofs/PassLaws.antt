@@ -16,13 +16,12 @@ use Rattle.theory.specs.Edges.{vertices, preds}
 use Rattle.theory.specs.Rows.{succs}
 use Rattle.theory.specs.Founded.{cyclic, cyclic_cone}
 use Rattle.theory.specs.Worklist.{Worklist}
-use Rattle.theory.specs.Pass.{pass_mode}
+use Rattle.theory.specs.Pass.{pass_mode_among, EnoughAmong}
 use Rattle.theory.specs.Prefix.{upto}
 use Rattle.theory.proofs.SetLaws.{clash, eq_is, is_eq, and_intro, and_left, and_right}
 use Rattle.theory.proofs.CycleLaws.{cyclic_walk}
 use Rattle.theory.proofs.EdgeLaws.{cone_bound}
-use Rattle.theory.proofs.PassLaws.{cyclic_cone_enough}
-use Rattle.theory.proofs.RoleLaws.{pass_end, pass_rests}
+use Rattle.theory.proofs.RoleLaws.{among_end, pass_rests}
 use Rattle.theory.proofs.TurnedLaws.{same_members, apart, upto_distinct}
 use Rattle.theory.proofs.WorklistLaws.{worklist_start}
 use Rattle.words.specs.Words.{Holds}
@@ -39,7 +38,7 @@ use Rattle.cones.specs.declared.Cone.{Cone}
 use Rattle.cones.proofs.FactLaws.{fact_mem}
 use Rattle.initialization.specs.Regions as start
 use Rattle.initialization.proofs.RegionLaws.{flagged_kept}
-use Rattle.preparation.specs.Stages.{Marking, Standing, Passing}
+use Rattle.preparation.specs.Stages.{Marking, Standing, Waiting, Passing}
 
 pub counts : {ws : List ℕ} {words : ℕ} {b : Bases} → Based ws words b → (b.atoms ≡ (theory_of ws).atoms) × (b.nodes ≡ (theory_of ws).nodes) × (b.producers ≡ (theory_of ws).producers)
 counts {ws} based =
@@ -72,6 +71,7 @@ module _ {ws : List ℕ} {b : Bases} {w₀ w : List ℕ} (based₀ : Based ws (l
   stands {w₁} k h = record {
     based = rw k.size marked_based;
     tables = tables_same k.tables k.size m.tables;
+    low = cone_low ws;
     flagged = record {
       low = λ a y. let q = counts based₀ in let l = ((cyclic_walk (theory_of ws) a).0 y).0 in omega arith;
       flag = λ a l. sym (get_or-drop b.cyclic_atoms w₁ a 0) ∙ ap (λ (x : List ℕ). get_or x a 0) k.flags ∙ get_or-drop b.cyclic_atoms w a 0 ∙ m.flags a l;
@@ -87,6 +87,7 @@ module _ {ws : List ℕ} {b : Bases} {marked cone : Set} {w w' : List ℕ} {c : 
     based = rw o.size s.based;
     tables = tables_same (frame_less b.dependencies w w' o.before b.states (omega arith)) o.size s.tables;
     flagged = flagged_kept s.based.laid w w' o.after s.flagged;
+    low = s.low;
     coned = record {
       found = record {
         marks = λ n h. frame_at b.dependencies w w' o.before (b.states + (b.atoms + n)) (omega arith) ∙ s.coned.found.marks n h;
@@ -101,21 +102,22 @@ module _ {ws : List ℕ} {b : Bases} {marked cone : Set} {w w' : List ℕ} {c : 
 
 -- ---- from what stands to the start
 
-module _ {ws : List ℕ} {ed : Edition} (acc : Accepted ed ws) {b : Bases} {w : List ℕ} {c : Cone} (s : Standing ws b (cyclic (theory_of ws)) (cyclic_cone (theory_of ws)) w c) where
+module _ {ws : List ℕ} {ed : Edition} (acc : Accepted ed ws) {b : Bases} {marked cone : Set} {w : List ℕ} {c : Cone} (s : Standing ws b marked cone w c) where
   nodes_long : c.nodes ≤ length (drop b.body_nodes w)
   nodes_long = let l = s.based.laid in let g = s.based.ends in let f = s.coned.found.within in let q = counts s.based in simp length-drop (omega arith)
 
   facts_long : c.facts ≤ length (drop b.fact_rows w)
   facts_long = let l = s.based.laid in let g = s.based.ends in let f = s.coned.few in let q = counts s.based in simp length-drop (omega arith)
 
-  both : (p : ℕ) → Is (any (cyclic (theory_of ws)) ((theory_of ws).heads p)) → (theory_of ws).body p ≡ 0 → Is (eqb ((theory_of ws).body p) 0 && any (cyclic (theory_of ws)) ((theory_of ws).heads p))
+  both : (p : ℕ) → Is (any marked ((theory_of ws).heads p)) → (theory_of ws).body p ≡ 0 → Is (eqb ((theory_of ws).body p) 0 && any marked ((theory_of ws).heads p))
   both p y e = and_intro (is_eq ((theory_of ws).body p) 0 e) y
 
-  pub start_prepared : start.Prepared ws b w c.nodes c.facts
+  pub start_prepared : start.Prepared ws b w c.nodes c.facts marked cone
   start_prepared = record {
     flagged = s.flagged;
     nodes_few = let f = s.coned.found.within in let q = counts s.based in omega arith;
-    cone = record {
+    listed = record {
+      low = s.low;
       once = upto_distinct c.nodes (drop b.body_nodes w) (λ i j a g. let n = nodes_long in apart c.nodes (drop b.body_nodes w) s.coned.found.once i j a g (omega arith));
       are = λ n. (λ y. (s.coned.found.lists n).0 ((same_members c.nodes (drop b.body_nodes w) nodes_long n).0 y), λ y. (same_members c.nodes (drop b.body_nodes w) nodes_long n).1 ((s.coned.found.lists n).1 y));
     };
@@ -134,21 +136,20 @@ module _ {ws : List ℕ} {ed : Edition} (acc : Accepted ed ws) {b : Bases} {w : 
 
   -- ---- the end of a worklist of the pass, whatever it started from
 
-  module _ {never atom_never : Set} {order : List ℕ} {w' : List ℕ} (list : Worklist (b.atoms + b.nodes) (pass_mode (theory_of ws) (cyclic_cone (theory_of ws)) never atom_never) (preds (theory_of ws) everyone) order order [] (count_at b w')) where
-    pub ended : Outside b.dependencies b.body_nodes w w' → Passing ws never atom_never b w w'
-    ended o = let same : Worklist (vertices (theory_of ws)) (λ v. pass_mode (theory_of ws) (cyclic_cone (theory_of ws)) never atom_never v) (preds (theory_of ws) everyone) order order [] (count_at b w') = rw (bound s.based) list in record {
-      outside = o;
-      flags = λ a l. pass_end (theory_of ws) acc.well_formed (cyclic_cone (theory_of ws)) never atom_never (cone_low ws) same (cyclic_cone_enough (theory_of ws) acc.well_formed never atom_never) a (let q = counts s.based in omega arith);
-      rests = pass_rests (theory_of ws) acc.well_formed (cyclic (theory_of ws)) (cyclic_cone (theory_of ws)) never atom_never (cone_low ws) same;
+  module _ {never atom_never : Set} {order : List ℕ} {w' : List ℕ} (list : Worklist (b.atoms + b.nodes) (pass_mode_among (theory_of ws) marked cone never atom_never) (preds (theory_of ws) everyone) order order [] (count_at b w')) where
+    pub ended : EnoughAmong (theory_of ws) marked cone never atom_never → Waiting ws marked cone never atom_never b w'
+    ended enough = let same : Worklist (vertices (theory_of ws)) (λ v. pass_mode_among (theory_of ws) marked cone never atom_never v) (preds (theory_of ws) everyone) order order [] (count_at b w') = rw (bound s.based) list in record {
+      flags = λ a l. among_end (theory_of ws) acc.well_formed marked cone never atom_never s.low same enough a (let q = counts s.based in omega arith);
+      rests = pass_rests (theory_of ws) acc.well_formed marked cone never atom_never s.low same;
     }
 
   -- ---- the lone pass
 
-  module _ {never atom_never : Set} {w₁ : List ℕ} {t : ℕ} (g : start.Begun ws never atom_never b w w₁ t) where
+  module _ {never atom_never : Set} {w₁ : List ℕ} {t : ℕ} (g : start.Begun ws never atom_never b w w₁ c.nodes c.facts t) where
     pub graph_rows : GraphRows ed ws b w₁
     graph_rows = let k = standing_kept s g.outside in record { accepted = acc; based = k.based; tables = k.tables }
 
-    running : {lim : ℕ} → Holds ed lim → Running lim b (pass_mode (theory_of ws) (cyclic_cone (theory_of ws)) never atom_never) (preds (theory_of ws) everyone) [] w₁ 0 t
+    running : {lim : ℕ} → Holds ed lim → Running lim b (pass_mode_among (theory_of ws) marked cone never atom_never) (preds (theory_of ws) everyone) [] w₁ 0 t
     unfolding upto
     running holds = let e = graph_rows.based in record {
       ahead = omega arith;
@@ -159,13 +160,16 @@ module _ {ws : List ℕ} {ed : Edition} (acc : Accepted ed ws) {b : Bases} {w : 
         fore = omega arith;
         front = λ i l. refl;
         outside = outside_none;
-        settling = rw (append-nil (queued b w₁ t)) (rw (bound s.based) at (worklist_start (vertices (theory_of ws)) (pass_mode (theory_of ws) (cyclic_cone (theory_of ws)) never atom_never) (preds (theory_of ws) everyone) g.started));
+        settling = rw (append-nil (queued b w₁ t)) (rw (bound s.based) at (worklist_start (vertices (theory_of ws)) (pass_mode_among (theory_of ws) marked cone never atom_never) (preds (theory_of ws) everyone) (g.started marked cone start_prepared)));
       };
     }
 
     pub runs : {lim : ℕ} → Holds ed lim → Runs lim b (succs (theory_of ws)) w₁ t
     runs holds = (_, _, [], graph_serves acc s.based _, running holds)
 
-    pub passing : {lim : ℕ} {w₂ : List ℕ} {u : ℕ} → Holds ed lim → Ran lim b (succs (theory_of ws)) w₁ w₂ 0 t u u → Passing ws never atom_never b w w₂
-    passing {w₂ = w₂} {u = u} holds r =
-        ended (rw (append-nil (queued b w₂ u)) at (r.runs _ _ [] (graph_serves acc s.based _) (running holds)).held.settling) (outside_then g.outside r.outside)
+    pub waiting : {lim : ℕ} {w₂ : List ℕ} {u : ℕ} → Holds ed lim → Ran lim b (succs (theory_of ws)) w₁ w₂ 0 t u u → EnoughAmong (theory_of ws) marked cone never atom_never → Waiting ws marked cone never atom_never b w₂
+    waiting {w₂ = w₂} {u = u} holds r = ended (rw (append-nil (queued b w₂ u)) at (r.runs _ _ [] (graph_serves acc s.based _) (running holds)).held.settling)
+
+pub passing : {ws : List ℕ} {ed : Edition} → Accepted ed ws → {b : Bases} {w w₁ w₂ : List ℕ} {c : Cone} {never atom_never : Set} {t u lim : ℕ} → start.Begun ws never atom_never b w w₁ c.nodes c.facts t → Holds ed lim
+    → Ran lim b (succs (theory_of ws)) w₁ w₂ 0 t u u → Passing ws never atom_never b w w₂ c
+passing acc g holds r = record { outside = outside_then g.outside r.outside; waiting = λ marked cone s enough. waiting acc s g holds r enough }

@@ -1,5 +1,6 @@
 -- From stage to stage: what a stage leaves is what the next one needs; and where row 12 refuses, the stage ends with its place.
-use mathlib.Core.Path.{◌≡◌, refl, ◌∙◌}
+use mathlib.Core.Path.{◌≡◌, ap, ◌∙◌}
+use mathlib.Core.Bool.{Bool, cond}
 use mathlib.Core.List.{List}
 use Prim.Native.Nat.{ℕ}
 use native.Mathlib.Omega.{arith}
@@ -7,9 +8,10 @@ use lib.ListN.{length}
 use Rattle.theory.specs.Sets.{Set}
 use Rattle.theory.specs.Words.{theory_of}
 use Rattle.theory.specs.Edges.{body_cone}
-use Rattle.theory.specs.Founded.{cyclic, cyclic_cone}
 use Rattle.refusals.specs.Answer.{accept, refuse}
 use Rattle.refusals.specs.Refusals.{absorbed_row}
+use Rattle.theory.specs.Founded.{missing_among}
+use Rattle.theory.specs.Pass.{EnoughAmong}
 use Rattle.area.specs.declared.Bases.{Bases}
 use Rattle.area.specs.Layout.{Based}
 use Rattle.area.proofs.PartLaws.{frame_less}
@@ -20,8 +22,8 @@ use Rattle.cones.specs.declared.Absorbed.{Absorbed}
 use Rattle.cones.specs.declared.Cone.{Cone}
 use Rattle.std.specs.Prelude.{Result, Ok, Err}
 use Rattle.std.specs.Result.{IsErrAnd}
-use Rattle.preparation.specs.Flags.{Marked, Listed}
-use Rattle.preparation.specs.Stages.{Rowed, Onward, Marking, Staged, Standing, Stood, Passing}
+use Rattle.preparation.specs.Flags.{Refused, Marked, Listed}
+use Rattle.preparation.specs.Stages.{Rowed, Onward, Marking, Staged, Standing, Stands, Stood, Passing}
 
 module _ (ws : List ℕ) (b : Bases) (w₀ : List ℕ) where
   pub onward : {w₁ w₂ : List ℕ} {x : ℕ} → Based ws (length w₀) b → Rowed ws b w₀ w₁ → cones.Kept b w₁ w₂ → cones.Found (theory_of ws) (body_cone (theory_of ws)) b w₂ x → Onward ws b w₂
@@ -52,24 +54,30 @@ module _ (ws : List ℕ) (b : Bases) (w₀ : List ℕ) where
     unfolding Staged
     marked_flags u q = (q.marking, q.row)
 
-    pub stood_refused : (e : Absorbed) (r : Result Cone Absorbed) → IsErrAnd r (λ x. x ≡ e) → Staged ws b w₀ w (Err e) → Stood ws b w₀ w r
-    unfolding Staged Stood
-    stood_refused e (Ok u) h s = absurd h
-    stood_refused e (Err x) h s = rw h s
+    pub staged_row : (e : Absorbed) → Staged ws b w₀ w (Err e) → Refused ws w₀ w e.node
+    unfolding Staged
+    staged_row e s = s
 
-    pub stood_done : (c : Cone) → length w ≡ length w₀ → absorbed_row (theory_of ws) ≡ accept → Standing ws b (cyclic (theory_of ws)) (cyclic_cone (theory_of ws)) w c → Stood ws b w₀ w (Ok c)
-    unfolding Stood
-    stood_done c s e h = record { size = s; row = e; standing = h }
+    module _ (marked cone : Set) where
+      pub stood_refused : (e : Absorbed) (r : Result Cone Absorbed) → IsErrAnd r (λ x. x ≡ e) → Refused ws w₀ w e.node → Stood ws b marked cone w₀ w r
+      unfolding Stood
+      stood_refused e (Ok u) h s = absurd h
+      stood_refused e (Err x) h s = rw h s
 
-    pub stood_standing : (c : Cone) → Stood ws b w₀ w (Ok c) → (length w ≡ length w₀) × (absorbed_row (theory_of ws) ≡ accept) × Standing ws b (cyclic (theory_of ws)) (cyclic_cone (theory_of ws)) w c
-    unfolding Stood
-    stood_standing c s = (s.size, s.row, s.standing)
+      pub stood_done : (c : Cone) → length w ≡ length w₀ → absorbed_row (theory_of ws) ≡ accept → Standing ws b marked cone w c → Stood ws b marked cone w₀ w (Ok c)
+      unfolding Stood
+      stood_done c s e h = record { size = s; row = e; standing = h }
 
-    pub listed_refused : (never atom_never : Set) (e : Absorbed) (r : Result (Unit {0}) Absorbed) → IsErrAnd r (λ x. x ≡ e) → Stood ws b w₀ w (Err e) → Listed ws never atom_never b w₀ w r
-    unfolding Stood Listed
-    listed_refused never atom_never e (Ok u) h s = absurd h
-    listed_refused never atom_never e (Err x) h s = rw h s
+      pub stood_standing : (c : Cone) → Stood ws b marked cone w₀ w (Ok c) → Stands ws b marked cone w₀ w c
+      unfolding Stood
+      stood_standing c s = s
 
-  pub listed_done : (never atom_never : Set) {w₂ : List ℕ} (w : List ℕ) → length w₂ ≡ length w₀ → absorbed_row (theory_of ws) ≡ accept → Passing ws never atom_never b w₂ w → Listed ws never atom_never b w₀ w (Ok (tt {0}))
+      pub listed_refused : (l : Set) (e : Absorbed) (r : Result (Unit {0}) Absorbed) → IsErrAnd r (λ x. x ≡ e) → Stood ws b marked cone w₀ w (Err e) → Listed ws l b w₀ w r
+      unfolding Stood Listed
+      listed_refused l e (Ok u) h s = absurd h
+      listed_refused l e (Err x) h s = rw h s
+
+  pub listed_done : {marked cone never atom_never : Set} {w₂ : List ℕ} {c : Cone} (w : List ℕ) → Stands ws b marked cone w₀ w₂ c → EnoughAmong (theory_of ws) marked cone never atom_never → Passing ws never atom_never b w₂ w c
+      → (l : Set) → ((a : ℕ) → missing_among (theory_of ws) marked never atom_never a ≡ l a) → Listed ws l b w₀ w (Ok (tt {0}))
   unfolding Listed
-  listed_done never atom_never w s e p = record { size = p.outside.size ∙ s; row = e; flags = p.flags }
+  listed_done {marked = marked} {cone = cone} w s e p l same = record { size = p.outside.size ∙ s.size; row = s.row; flags = λ a i. (p.waiting marked cone s.standing e).flags a i ∙ ap (λ (x : Bool). cond x 1 0) (same a) }

@@ -1,8 +1,8 @@
--- What preparation and the pass leave in the work area: a flag for each cyclic atom, and a flag for each missing atom.
+-- What preparation and the pass leave in the work area: a flag for each cyclic atom, and a flag for each atom on the list.
 use Rattle.std.specs.Prelude.{◌≡◌, cond, List, ℕ, ◌+◌, ◌<◌, length, get_or, Result, Ok, Err}
 use Rattle.theory.specs.Sets.{Set}
 use Rattle.theory.specs.Words.{theory_of}
-use Rattle.theory.specs.Founded.{cyclic, missing}
+use Rattle.theory.specs.Founded.{cyclic}
 use Rattle.refusals.specs.Answer.{accept, refuse}
 use Rattle.refusals.specs.Refusals.{absorbed_row}
 use Rattle.area.specs.declared.Bases.{Bases}
@@ -23,12 +23,12 @@ unfoldable pub Marked : List ℕ → Bases → List ℕ → List ℕ → Result 
 Marked ws b w₀ w (Ok u) = Prepared ws b w₀ w
 Marked ws b w₀ w (Err e) = Refused ws w₀ w e.node
 
--- the missing atoms are flagged where their counts were, and row 12 accepts
-pub record Passed (ws : List ℕ) (never atom_never : Set) (b : Bases) (w₀ w : List ℕ) : Type 0 where
+-- the atoms of a list s are flagged where their counts were, and row 12 accepts
+pub record Passed (ws : List ℕ) (s : Set) (b : Bases) (w₀ w : List ℕ) : Type 0 where
   pub size : length w ≡ length w₀
   pub row : absorbed_row (theory_of ws) ≡ accept
-  pub flags : (a : ℕ) → a < b.atoms → get_or w (b.dependencies + a) 0 ≡ cond (missing (theory_of ws) never atom_never a) 1 0
+  pub flags : (a : ℕ) → a < b.atoms → get_or w (b.dependencies + a) 0 ≡ cond (s a) 1 0
 
-unfoldable pub Listed : List ℕ → (never atom_never : Set) → Bases → List ℕ → List ℕ → Result (Unit {0}) Absorbed → Type 0
-Listed ws never atom_never b w₀ w (Ok u) = Passed ws never atom_never b w₀ w
-Listed ws never atom_never b w₀ w (Err e) = Refused ws w₀ w e.node
+unfoldable pub Listed : List ℕ → Set → Bases → List ℕ → List ℕ → Result (Unit {0}) Absorbed → Type 0
+Listed ws s b w₀ w (Ok u) = Passed ws s b w₀ w
+Listed ws s b w₀ w (Err e) = Refused ws w₀ w e.node

@@ -1,9 +1,10 @@
 -- What the words hold from stage to stage: the row tables, the body cone, the cyclic atoms, what a pass goes by, and after the pass the counts.
 use Rattle.std.specs.Prelude.{◌≡◌, cond, List, ℕ, ◌+◌, ◌<◌, length, Result, Ok, Err}
-use Rattle.theory.specs.Sets.{Set, any}
+use Rattle.theory.specs.Sets.{Set, Is, any}
 use Rattle.theory.specs.Words.{theory_of}
 use Rattle.theory.specs.Edges.{body_cone}
-use Rattle.theory.specs.Founded.{cyclic, cyclic_cone, missing}
+use Rattle.theory.specs.Founded.{cyclic, missing_among}
+use Rattle.theory.specs.Pass.{EnoughAmong}
 use Rattle.theory.specs.Roles.{Resting}
 use Rattle.refusals.specs.Answer.{accept}
 use Rattle.refusals.specs.Refusals.{absorbed_row}
@@ -54,20 +55,25 @@ pub record Standing (ws : List ℕ) (b : Bases) (marked cone : Set) (w : List �
   pub based : Based ws (length w) b
   pub tables : Tables (theory_of ws) b w
   pub flagged : Flagged b w marked
+  pub low : (n : ℕ) → Is (cone n) → n < (theory_of ws).nodes
   pub coned : Held (theory_of ws) cone (fact_by (theory_of ws) (λ p. any marked ((theory_of ws).heads p))) b w c
 
--- it stands for the cyclic atoms, and row 12 accepts
-pub record Stands (ws : List ℕ) (b : Bases) (w₀ w : List ℕ) (c : Cone) : Type 0 where
+-- it stands, and no node of the body cone is absorbed
+pub record Stands (ws : List ℕ) (b : Bases) (marked cone : Set) (w₀ w : List ℕ) (c : Cone) : Type 0 where
   pub size : length w ≡ length w₀
   pub row : absorbed_row (theory_of ws) ≡ accept
-  pub standing : Standing ws b (cyclic (theory_of ws)) (cyclic_cone (theory_of ws)) w c
+  pub standing : Standing ws b marked cone w c
 
-unfoldable pub Stood : List ℕ → Bases → List ℕ → List ℕ → Result Cone Absorbed → Type 0
-Stood ws b w₀ w (Ok c) = Stands ws b w₀ w c
-Stood ws b w₀ w (Err e) = Refused ws w₀ w e.node
+unfoldable pub Stood : List ℕ → Bases → (marked cone : Set) → List ℕ → List ℕ → Result Cone Absorbed → Type 0
+Stood ws b marked cone w₀ w (Ok c) = Stands ws b marked cone w₀ w c
+Stood ws b marked cone w₀ w (Err e) = Refused ws w₀ w e.node
 
--- the missing atoms are those that still wait, and what no pass waits for has a count of 0; counts and queue are written, nothing else
-pub record Passing (ws : List ℕ) (never atom_never : Set) (b : Bases) (w₀ w : List ℕ) : Type 0 where
+-- the atoms that are left unfounded are those that still wait, and what no pass waits for has a count of 0
+pub record Waiting (ws : List ℕ) (marked cone never atom_never : Set) (b : Bases) (w : List ℕ) : Type 0 where
+  pub flags : (a : ℕ) → a < b.atoms → count_at b w a ≡ cond (missing_among (theory_of ws) marked never atom_never a) 1 0
+  pub rests : Resting (theory_of ws) marked cone (count_at b w)
+
+-- whatever stood: so it is after the pass; counts and queue are written, nothing else
+pub record Passing (ws : List ℕ) (never atom_never : Set) (b : Bases) (w₀ w : List ℕ) (c : Cone) : Type 0 where
   pub outside : Outside b.dependencies b.body_nodes w₀ w
-  pub flags : (a : ℕ) → a < b.atoms → count_at b w a ≡ cond (missing (theory_of ws) never atom_never a) 1 0
-  pub rests : Resting (theory_of ws) (cyclic (theory_of ws)) (cyclic_cone (theory_of ws)) (count_at b w)
+  pub waiting : (marked cone : Set) → Standing ws b marked cone w₀ c → EnoughAmong (theory_of ws) marked cone never atom_never → Waiting ws marked cone never atom_never b w

@@ -3,8 +3,10 @@
 #![tactic(auto)]
 
 ghost use Rattle.std.specs.Prelude.{length};
+ghost use Rattle.theory.specs.Sets.{Set};
 ghost use Rattle.theory.specs.Words.{bit_at, theory_of};
-ghost use Rattle.theory.specs.Founded.{cyclic, cyclic_cone};
+ghost use Rattle.theory.specs.Founded.{cyclic, cyclic_cone, missing};
+ghost use Rattle.theory.specs.Pass.{EnoughAmong};
 ghost use Rattle.theory.specs.Accepted.{Accepted};
 ghost use Rattle.area.specs.Layout.{bases_of, Based};
 ghost use Rattle.preparation.specs.Flags.{Marked, Listed};
@@ -17,7 +19,7 @@ use finishing::NEW;
 use words::Word;
 
 // The four row tables.
-fn build_rows<W: Word>(graph: &[W], work: &mut [W], b: Bases)
+pub fn build_rows<W: Word>(graph: &[W], work: &mut [W], b: Bases)
     requires { Accepted W.edition (W.numbers graph.now) × Based (W.numbers graph.now) (length (W.numbers work.old)) b }
     ensures { Rowed (W.numbers graph.now) b (W.numbers work.old) (W.numbers work.new) }
 {
@@ -69,13 +71,13 @@ pub fn cyclic_atoms<W: Word>(graph: &[W], work: &mut [W], b: Bases) -> Result<()
 // All that a pass goes by: the rows, the flags of the cyclic atoms, and the cyclic cone.
 pub fn stand<W: Word>(graph: &[W], work: &mut [W], b: Bases) -> Result<Cone, Absorbed>
     requires { Accepted W.edition (W.numbers graph.now) × Based (W.numbers graph.now) (length (W.numbers work.old)) b }
-    ensures { Stood (W.numbers graph.now) b (W.numbers work.old) (W.numbers work.new) result }
+    ensures { Stood (W.numbers graph.now) b (cyclic (theory_of (W.numbers graph.now))) (cyclic_cone (theory_of (W.numbers graph.now))) (W.numbers work.old) (W.numbers work.new) result }
 {
     mark(graph, work)?;
     Ok(cones::cyclic_cone(graph, work, b))
 }
 
-// The pass: what is founded is settled, and a missing atom still waits. Counts and queue are written, nothing else.
+// A pass, whatever is marked: what is founded is settled, and an atom that is left unfounded still waits. Counts and queue are written, nothing else.
 pub fn pass<W: Word>(
     graph: &[W],
     never: &[u64],
@@ -84,8 +86,8 @@ pub fn pass<W: Word>(
     b: Bases,
     c: Cone,
 )
-    requires { Accepted W.edition (W.numbers graph.now) × Standing (W.numbers graph.now) b (cyclic (theory_of (W.numbers graph.now))) (cyclic_cone (theory_of (W.numbers graph.now))) (W.numbers work.old) c }
-    ensures { Passing (W.numbers graph.now) (bit_at never.now) (bit_at atom_never.now) b (W.numbers work.old) (W.numbers work.new) }
+    requires { Accepted W.edition (W.numbers graph.now) × (marked : Set) × (cone : Set) × Standing (W.numbers graph.now) b marked cone (W.numbers work.old) c × EnoughAmong (theory_of (W.numbers graph.now)) marked cone (bit_at never.now) (bit_at atom_never.now) }
+    ensures { Passing (W.numbers graph.now) (bit_at never.now) (bit_at atom_never.now) b (W.numbers work.old) (W.numbers work.new) c }
 {
     let first = initialization::start(graph, never, atom_never, work, b, c.nodes, c.facts);
     events::settle_all(graph, work, first);
@@ -100,7 +102,7 @@ pub fn missing<W: Word>(
     b: Bases,
 ) -> Result<(), Absorbed>
     requires { Accepted W.edition (W.numbers graph.now) × Based (W.numbers graph.now) (length (W.numbers work.old)) b }
-    ensures { Listed (W.numbers graph.now) (bit_at never.now) (bit_at atom_never.now) b (W.numbers work.old) (W.numbers work.new) result }
+    ensures { Listed (W.numbers graph.now) (missing (theory_of (W.numbers graph.now)) (bit_at never.now) (bit_at atom_never.now)) b (W.numbers work.old) (W.numbers work.new) result }
 {
     let c = stand(graph, work, b)?;
     pass(graph, never, atom_never, work, b, c);

@@ -14,4 +14,4 @@ returns-in-Some g c = let f = rw (sym c.requires.1.is) at c.find-c.ensures in le
 
 pub returns-in-None : goal.returns-in-None
 unfolding theory_of body_cone
-returns-in-None g c = let f = rw (sym c.requires.1.is) at c.find-c.ensures in (f.1, refuse_none _ _ _ f.0.found (rw c.requires.1.nodes at c.in-None.ensures))
+returns-in-None g c = let f = rw (sym c.requires.1.is) at c.find-c.ensures in (f.1, refuse_none _ _ _ f.0 (rw c.requires.1.nodes at c.in-None.ensures))

@@ -10,7 +10,7 @@ returns-in_err-body_cone g c =
 
 pub walk-requires : goal.walk-requires
 unfolding body_coned
-walk-requires g c = (c.requires.0, onward _ _ _ c.requires.1 c.build_rows.ensures c.body_cone.ensures.0 c.in_ok-body_cone.ensures.1.0)
+walk-requires g c = (c.requires.0, onward _ _ _ c.requires.1 c.build_rows.ensures c.body_cone.ensures.0 c.in_ok-body_cone.ensures.1.0.found)
 
 pub returns : goal.returns
 unfolding body_coned

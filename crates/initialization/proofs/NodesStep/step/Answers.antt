@@ -1,12 +1,12 @@
 use native.Mathlib.Omega.{arith}
-use Rattle.initialization.proofs.StartLaws.{in_cone, vertex_ready, vertex_fits, inactive_rests, true_pushes, awaiting_pushes, awaiting_waits, awaiting_fits}
+use Rattle.initialization.proofs.StartLaws.{cone_low, vertex_ready, vertex_fits, inactive_rests, true_pushes, awaiting_pushes, awaiting_waits, awaiting_fits}
 use Rattle.initialization.proofs.NodesStep.step.Goals as goal
 
 pub overflow_add-vertex : goal.overflow_add-vertex
 overflow_add-vertex g c = let r = vertex_ready c.requires in omega arith
 
 pub read-requires : goal.read-requires
-read-requires g c = record { accepted = (c.requires.held.accepted, c.requires.held.based, c.requires.held.flagged); is = in_cone c.requires }
+read-requires g c = record { accepted = (c.requires.held.accepted, c.requires.held.based); low = cone_low c.requires }
 
 pub push-requires : goal.push-requires
 push-requires g c =
