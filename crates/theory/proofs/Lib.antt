@@ -30,3 +30,5 @@ pub mod AlikeLaws
 pub mod ContentLaws
 pub mod CutLaws
 pub mod LoopLaws
+pub mod EveryAtomLaws
+pub mod GreatestLaws

@@ -6,6 +6,8 @@ pub mod Edges
 pub mod Truth
 pub mod Founded
 pub mod Unfounded
+pub mod EveryAtom
+pub mod Greatest
 pub mod Words
 pub mod Links
 pub mod Accepted
