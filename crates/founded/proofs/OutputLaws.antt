@@ -34,7 +34,7 @@ flags_pack from {n} {m} w s e h = rw (← e) (pack_ext n (λ a. eqb (get_or w (f
     test false = refl
 
 -- the bits of a packed set of atoms, past the last atom too
-set_list : (ws : List ℕ) (s : Set) → ((a : ℕ) → Is (s a) → a < (theory_of ws).atoms) → bit_at (pack (get_or ws 1 0) s) ≡ s
+pub set_list : (ws : List ℕ) (s : Set) → ((a : ℕ) → Is (s a) → a < (theory_of ws).atoms) → bit_at (pack (get_or ws 1 0) s) ≡ s
 unfolding theory_of
 set_list ws s low = fun_ext (λ a. pack_bit (get_or ws 1 0) s a ∙ go a (bool_cases (s a)))
   where

@@ -47,7 +47,7 @@ fn bad_output(count: usize, words: usize) -> bool
 }
 
 // Writes the set that the flags from `from` on stand for, and clears the words.
-fn hand_out<W: Word>(words: &mut [W], from: usize, atoms: usize, output: &mut [u64])
+pub fn hand_out<W: Word>(words: &mut [W], from: usize, atoms: usize, output: &mut [u64])
     requires { (from + atoms ≤ length (W.numbers words.old)) × (length output.old ≡ words_of atoms) }
     ensures output_after { output.new ≡ pack atoms (λ a. eqb (get_or (W.numbers words.old) (from + a) 0) 1) }
     ensures words_after { W.numbers words.new ≡ replicate (length (W.numbers words.old)) 0 }
@@ -97,7 +97,7 @@ pub fn prepare<W: Area>(graph: &[W], output: &mut [u64], work: &mut [W]) -> Resu
 
 // Refusal 10 of the pass.
 #[tactic(auto, unfolding(crate::specs::Answers::bad_lengths))]
-fn bad_lengths<W: Word>(graph: &[W], never: usize, atom_never: usize, output: usize) -> bool
+pub fn bad_lengths<W: Word>(graph: &[W], never: usize, atom_never: usize, output: usize) -> bool
     requires { 5 ≤ length (W.numbers graph.now) }
     ensures { result ≡ bad_lengths (W.numbers graph.now) never atom_never output }
 {

@@ -1,0 +1,2 @@
+pub mod StandLaws
+pub mod ListLaws
