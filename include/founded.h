@@ -112,6 +112,12 @@ uint32_t founded_complete(const uint16_t *graph, size_t graph_len, const uint64_
 uint64_t founded_wide_complete(const uint32_t *graph, size_t graph_len, const uint64_t *never, size_t never_len, const uint64_t *atom_never,
                                size_t atom_never_len, uint64_t *output, size_t output_len, uint32_t *work, size_t work_len);
 
+/* States that nothing produces: the pass with every atom marked, after the same rows. 0, and the output lists the uncut atoms that are left unfounded: those that no fact and no producer
+ * with a true body has as a head, where an Atom is true only if its atom is founded. These are the uncut atoms of the greatest unfounded set of Van Gelder, Ross and Schlipf (1991), with
+ * cut atoms and cut nodes taken as false and opaque nodes as true unless cut. Each atom on the pass's list is on this one. Or the code of a refusal of 1 to 12 or 14. */
+uint32_t founded_unfounded(const uint16_t *graph, size_t graph_len, const uint64_t *never, size_t never_len, const uint64_t *atom_never,
+                           size_t atom_never_len, uint64_t *output, size_t output_len, uint16_t *work, size_t work_len);
+
 #ifdef __cplusplus
 }
 #endif

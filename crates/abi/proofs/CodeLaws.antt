@@ -1,5 +1,6 @@
--- A code that is made of an answer's number and place tells the answer (`told`). Preparation and pass, whose code tells their answer (`prepared_told`, `completed_told`); over masks filled up with zero words the pass gives the same
--- code and leaves the same words (`filled_told`). The loop test's number (`needed_told`): it tells the outcome, and on success it is 1 exactly if there is a closed walk. How many words the work area has: `words_refused`, `words_accepted`.
+-- A code that is made of an answer's number and place tells the answer (`told`). Preparation, pass and the list of what nothing produces, whose code tells their answer (`prepared_told`, `completed_told`, `unfounded_told`); over masks
+-- filled up with zero words the pass gives the same code and leaves the same words (`filled_told`). The loop test's number (`needed_told`): it tells the outcome, and on success it is 1 exactly if there is a closed walk. How many words the
+-- work area has: `words_refused`, `words_accepted`.
 use mathlib.Core.Path.{◌≡◌, refl, sym, ap, ◌∙◌}
 use mathlib.Core.Logic.{◌↔◌}
 use mathlib.Core.Bool.{Bool, true, false, not, cond, true≢false}
@@ -23,7 +24,8 @@ use Rattle.cycles.specs.Outcome.{Outcome, refused, loops, refusal, outcome, work
 use Rattle.founded.specs.declared.CallError.{CallError}
 use Rattle.founded.specs.Answers.{call_of, Prepares, Completes}
 use Rattle.founded.proofs.ShortLaws.{filled, filled_answer, filled_leaves}
-use Rattle.abi.specs.Codes.{code_of, Tells, NeedTells, Placed, Needed, PreparedAs, CompletedAs, work_words}
+use Rattle.abi.specs.Codes.{code_of, Tells, NeedTells, Placed, Needed, PreparedAs, CompletedAs, work_words, UnfoundedAs}
+use Rattle.unfounded.specs.Unproduced.{ListsUnfounded}
 
 pub told : {lim : ℕ} {a : Answer} {n p r : ℕ} → n ≡ a.number → p ≡ a.place → Tells lim (refuse n p) r → Tells lim a r
 told e q t = rw (e, q) at t
@@ -46,6 +48,10 @@ module _ (lim : ℕ) (ed : Edition) where
       let e = filled_answer graph never atom_never j k n a ed (length output) (length work) in
       let same = filled_leaves graph never atom_never j k n a (ap (λ (x : Answer). x.number) e) short.leaves full.leaves in
       (full.told.0 ∙ ap (code_of lim) e ∙ sym short.told.0, same.0, same.1)
+
+  pub unfounded_told : {graph never atom_never output work output' work' : List ℕ} {a : Result (Unit {0}) CallError} {r : ℕ} → ListsUnfounded ed graph never atom_never output work output' work' a → Tells lim (call_of a) r
+      → UnfoundedAs lim ed graph never atom_never output work output' work' r
+  unfounded_told h t = record { told = rw (← h.answer) t; leaves = rw (← h.answer) h.leaves }
 
   pub needed_told : {o : Outcome} {graph work work' : List ℕ} {r : ℕ} → o ≡ outcome ed graph work → work' ≡ work_after ed graph work
       → ((yes : Bool) → o ≡ loops yes → (yes ≡ true) ↔ ClosedWalk (theory_of graph)) → NeedTells lim o r → Needed lim ed graph work work' r

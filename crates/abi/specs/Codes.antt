@@ -7,6 +7,7 @@ use Rattle.refusals.specs.Answer.{Answer}
 use Rattle.refusals.specs.Refusals.{graph_answer}
 use Rattle.cycles.specs.Outcome.{Outcome, refused, loops, refusal, outcome, work_after, ClosedWalk}
 use Rattle.founded.specs.Answers.{prepare_answer, complete_answer, PrepareLeaves, CompleteLeaves}
+use Rattle.unfounded.specs.Unproduced.{UnfoundedLeaves}
 
 -- the number of the refusal in the high half and its place in the low one; success is 0
 abbrev pub code_of : (lim : ℕ) → Answer → ℕ
@@ -40,6 +41,11 @@ module _ (lim : ℕ) (ed : Edition) where
   pub record CompletedAs (graph never atom_never output work output' work' : List ℕ) (r : ℕ) : Type 0 where
     pub told : Tells lim (complete_answer ed graph (length never) (length atom_never) (length output) (length work)) r
     pub leaves : CompleteLeaves graph never atom_never output work output' work' (complete_answer ed graph (length never) (length atom_never) (length output) (length work)).number
+
+  -- request 6's call: the pass's rows, and its own list
+  pub record UnfoundedAs (graph never atom_never output work output' work' : List ℕ) (r : ℕ) : Type 0 where
+    pub told : Tells lim (complete_answer ed graph (length never) (length atom_never) (length output) (length work)) r
+    pub leaves : UnfoundedLeaves graph never atom_never output work output' work' (complete_answer ed graph (length never) (length atom_never) (length output) (length work)).number
 
 -- how many words the work area of an accepted graph has; 0 for a graph that is refused
 abbrev pub work_words : Edition → List ℕ → ℕ

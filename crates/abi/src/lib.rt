@@ -1,5 +1,5 @@
 // The calls for C and Rust to link: numbers and slices alone. A slice crosses as a pointer and a length. Here are those on graphs of edition 1; wide.rt has the
-// same four on graphs of edition 2, and length.rt how long a work area edition 2 asks for. Masks, output and work area are parameters of their own, as in the header.
+// first four on graphs of edition 2, and length.rt how long a work area edition 2 asks for. Masks, output and work area are parameters of their own, as in the header.
 // `Tells` is what a code says of the answer that it is made of.
 #![tactic(auto)]
 
@@ -9,7 +9,7 @@ pub mod wide;
 
 ghost use Rattle.theory.specs.Accepted.{edition1};
 ghost use Rattle.refusals.specs.Refusals.{graph_answer};
-ghost use Rattle.abi.specs.Codes.{Tells, Needed, PreparedAs, CompletedAs};
+ghost use Rattle.abi.specs.Codes.{Tells, Needed, PreparedAs, CompletedAs, UnfoundedAs};
 
 use crate::codes::{call_code, checked_code, needed_code};
 
@@ -49,4 +49,18 @@ pub extern "C" fn founded_complete(
     ensures { CompletedAs 65536 edition1 graph.now never.now atom_never.now output.old work.old output.new work.new result }
 {
     call_code(founded::complete(graph, never, atom_never, output, work))
+}
+
+// The uncut atoms that are left unfounded with every atom marked.
+#[unsafe(no_mangle)]
+pub extern "C" fn founded_unfounded(
+    graph: &[u16],
+    never: &[u64],
+    atom_never: &[u64],
+    output: &mut [u64],
+    work: &mut [u16],
+) -> u32
+    ensures { UnfoundedAs 65536 edition1 graph.now never.now atom_never.now output.old work.old output.new work.new result }
+{
+    call_code(unfounded::unfounded(graph, never, atom_never, output, work))
 }

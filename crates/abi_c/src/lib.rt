@@ -1,11 +1,11 @@
 // The static library that C and Rust link: each export is the call of crate abi that has its name, under the same clauses. A slice crosses as a pointer and a length.
-// The nine exported names stand here again since a crate is a library or a static library, not both.
+// The ten exported names stand here again since a crate is a library or a static library, not both.
 #![tactic(auto)]
 
 ghost use Rattle.std.specs.Prelude.{◌≡◌};
 ghost use Rattle.theory.specs.Accepted.{edition1, edition2};
 ghost use Rattle.refusals.specs.Refusals.{graph_answer};
-ghost use Rattle.abi.specs.Codes.{Tells, Needed, PreparedAs, CompletedAs, work_words};
+ghost use Rattle.abi.specs.Codes.{Tells, Needed, PreparedAs, CompletedAs, UnfoundedAs, work_words};
 
 // Graphs of edition 1: the graph check.
 #[unsafe(no_mangle)]
@@ -43,6 +43,20 @@ pub extern "C" fn founded_complete(
     ensures { CompletedAs 65536 edition1 graph.now never.now atom_never.now output.old work.old output.new work.new result }
 {
     abi::founded_complete(graph, never, atom_never, output, work)
+}
+
+// The uncut atoms that are left unfounded with every atom marked.
+#[unsafe(no_mangle)]
+pub extern "C" fn founded_unfounded(
+    graph: &[u16],
+    never: &[u64],
+    atom_never: &[u64],
+    output: &mut [u64],
+    work: &mut [u16],
+) -> u32
+    ensures { UnfoundedAs 65536 edition1 graph.now never.now atom_never.now output.old work.old output.new work.new result }
+{
+    abi::founded_unfounded(graph, never, atom_never, output, work)
 }
 
 // Graphs of edition 2: the graph check.

@@ -3,8 +3,9 @@
 //!
 //! The parts are `narrow` (edition 1 against the Rust), `editions` (edition 2
 //! against edition 1 on the same content), `scale` (edition 2 against the
-//! Rust, up to its largest graph) and `order` (the check of both editions with
-//! links in any order against plain Rust); without `--part` all are run. With `--bars` it
+//! Rust, up to its largest graph), `order` (the check of both editions with
+//! links in any order against plain Rust) and `unfounded` (the pass with every atom
+//! marked against the pass); without `--part` all are run. With `--bars` it
 //! ends with 1 if a bar does not hold; with `--plot` it writes the picture of
 //! `narrow`, with `--plot-wide` that of `scale`; with `--graphs` there are so many
 //! graphs of each size of edition 1.
@@ -16,7 +17,7 @@ use bench::report::Bar;
 use bench::{caches, inputs, measure, plot, report};
 
 const USAGE: &str = "bench [--bars] [--plot FILE] [--plot-wide FILE] [--rounds COUNT] [--graphs COUNT] \
-                     [--part narrow|editions|scale|order]";
+                     [--part narrow|editions|scale|order|unfounded]";
 
 struct Asked {
     bars: bool,
@@ -33,10 +34,17 @@ enum Part {
     Editions,
     Scale,
     Order,
+    Unfounded,
 }
 
 impl Part {
-    const ALL: [Self; 4] = [Self::Narrow, Self::Editions, Self::Scale, Self::Order];
+    const ALL: [Self; 5] = [
+        Self::Narrow,
+        Self::Editions,
+        Self::Scale,
+        Self::Order,
+        Self::Unfounded,
+    ];
 
     fn of(word: &str) -> Option<Self> {
         match word {
@@ -44,6 +52,7 @@ impl Part {
             "editions" => Some(Self::Editions),
             "scale" => Some(Self::Scale),
             "order" => Some(Self::Order),
+            "unfounded" => Some(Self::Unfounded),
             _ => None,
         }
     }
@@ -90,6 +99,12 @@ impl Part {
                 println!("The check with links in any order, against plain Rust\n");
                 println!("{}", report::any_order(&editions));
                 Ok(report::any_order_bars(&editions))
+            }
+            Self::Unfounded => {
+                let measured = measure::unfounded(asked.graphs, asked.rounds);
+                println!("The pass with every atom marked, against the pass\n");
+                println!("{}", report::unfounded(&measured));
+                Ok(report::unfounded_bars(&measured))
             }
         }
     }

@@ -37,6 +37,9 @@ pub const THEORY: usize = Before::Theory as usize;
 /// Where edition 2 is held to edition 1.
 pub const EDITION_1: usize = 0;
 
+/// Where the pass with every atom marked is held to the pass.
+pub const PASS: usize = 0;
+
 /// Where the check is held to the plain one.
 pub const PLAIN: usize = 0;
 
@@ -229,6 +232,15 @@ pub fn any_order<W: Word + compare::calls::Word>(sizes: &[usize], rounds: usize)
         measured.extend(run(vec![bench], fewer(rounds, size)));
     }
     measured
+}
+
+/// The pass with every atom marked, held to the pass on the same graphs.
+pub fn unfounded(graphs: Option<usize>, rounds: usize) -> Vec<Measured> {
+    let (inputs, clock) = (inputs::all::<u16>(graphs), clock());
+    let benches = inputs
+        .iter()
+        .map(|input| Bench::new(input, Call::Unfounded, [ours(input, Call::Pass)], clock));
+    run(benches.collect(), rounds)
 }
 
 /// All calls of edition 2 on its own sizes, held to the Rust: one input after

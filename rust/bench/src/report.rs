@@ -4,7 +4,7 @@ use std::fmt::Write as _;
 
 use crate::caches::Cache;
 use crate::inputs::WIDE_WORDS;
-use crate::measure::{EDITION_1, Measured, PLAIN, THEORY};
+use crate::measure::{EDITION_1, Measured, PASS, PLAIN, THEORY};
 use crate::sides::{Before, Call};
 
 fn thousands(number: usize) -> String {
@@ -37,6 +37,19 @@ pub fn any_order(editions: &[(usize, Vec<Measured>)]) -> String {
             let ratio = spread(cell.others[PLAIN].ratios);
             let _ = writeln!(table, "| {edition} | {size} | {micros:.2} | {ratio} |");
         }
+    }
+    table
+}
+
+/// The pass with every atom marked, by the pass: a row for each input.
+pub fn unfounded(measured: &[Measured]) -> String {
+    let mut table =
+        String::from("| A = N = P | loops | unfounded, µs | by the pass |\n|---|---|---|---|\n");
+    for cell in measured {
+        let loops = if cell.loops { "yes" } else { "no" };
+        let (size, micros) = (thousands(cell.size), cell.ours / 1_000.0);
+        let ratio = spread(cell.others[PASS].ratios);
+        let _ = writeln!(table, "| {size} | {loops} | {micros:.2} | {ratio} |");
     }
     table
 }
@@ -149,6 +162,19 @@ pub fn edition_bars(measured: &[Measured]) -> Vec<Bar> {
         most: 1.3,
     })
     .collect()
+}
+
+/// The pass with every atom marked takes at most 0.8 of the pass's time on the
+/// largest graphs of edition 1.
+pub fn unfounded_bars(measured: &[Measured]) -> Vec<Bar> {
+    let largest = measured.iter().filter(|cell| cell.size == 1_024);
+    largest
+        .map(|cell| Bar {
+            what: format!("{}: by the pass", name(cell)),
+            figure: cell.others[PASS].ratios[1],
+            most: 0.8,
+        })
+        .collect()
 }
 
 /// The check with links in any order, by edition: from 1,024 atoms on it takes at

@@ -12,9 +12,12 @@ pub enum Call {
     LoopTest,
     Preparation,
     Pass,
+    /// The pass with every atom marked, which the original does not have.
+    Unfounded,
 }
 
 impl Call {
+    /// Those that both sides have.
     pub const ALL: [Self; 4] = [Self::Check, Self::LoopTest, Self::Preparation, Self::Pass];
 
     pub fn name(self) -> &'static str {
@@ -23,6 +26,7 @@ impl Call {
             Self::LoopTest => "loop test",
             Self::Preparation => "preparation",
             Self::Pass => "pass",
+            Self::Unfounded => "unfounded",
         }
     }
 }
@@ -66,10 +70,16 @@ impl<W: Word> Ours<W> {
                 Call::Check => W::CHECK(words, length),
                 Call::LoopTest => W::NEEDED(words, length, work, work_len),
                 Call::Preparation => W::PREPARE(words, length, output, output_len, work, work_len),
-                Call::Pass => W::COMPLETE(
-                    words, length, clear, clear_len, clear, clear_len, output, output_len, work,
-                    work_len,
-                ),
+                Call::Pass | Call::Unfounded => {
+                    let pass = match call {
+                        Call::Pass => W::COMPLETE,
+                        _ => W::UNFOUNDED.expect("a call of edition 1"),
+                    };
+                    pass(
+                        words, length, clear, clear_len, clear, clear_len, output, output_len,
+                        work, work_len,
+                    )
+                }
             }
         }
     }
@@ -82,7 +92,7 @@ impl<W: Word> Ours<W> {
             Call::LoopTest if code <= 1 => Answer::Loops(code == 1),
             _ if code != 0 => panic!("refused: {code:#x}"),
             Call::LoopTest | Call::Check => Answer::Accepted,
-            Call::Preparation | Call::Pass => Answer::Atoms(self.output.clone()),
+            Call::Preparation | Call::Pass | Call::Unfounded => Answer::Atoms(self.output.clone()),
         }
     }
 }
@@ -163,6 +173,7 @@ fn answer(oracle: &Oracle, call: Call, clear: &[u64]) -> Answer {
         Call::Check | Call::LoopTest => return Answer::Loops(oracle.needed().expect("an answer")),
         Call::Preparation => oracle.cyclic_atoms(),
         Call::Pass => oracle.missing(clear, clear),
+        Call::Unfounded => unreachable!("the original has no such call"),
     };
     Answer::Atoms(atoms.expect("an answer"))
 }

@@ -34,6 +34,8 @@ pub trait Word: Copy + Default + Ord + Into<u32> {
     const NEEDED: Needed<Self>;
     const PREPARE: Prepare<Self>;
     const COMPLETE: Complete<Self>;
+    /// In edition 1 alone.
+    const UNFOUNDED: Option<Complete<Self>>;
 
     /// The length of the work area for an accepted graph.
     fn work_words(graph: &[Self]) -> usize;
@@ -58,6 +60,7 @@ impl Word for u16 {
     const NEEDED: Needed<Self> = raw::founded_needed;
     const PREPARE: Prepare<Self> = raw::founded_prepare;
     const COMPLETE: Complete<Self> = raw::founded_complete;
+    const UNFOUNDED: Option<Complete<Self>> = Some(raw::founded_unfounded);
 
     fn work_words(_: &[Self]) -> usize {
         32_768
@@ -79,6 +82,7 @@ impl Word for u32 {
     const NEEDED: Needed<Self> = raw::founded_wide_needed;
     const PREPARE: Prepare<Self> = raw::founded_wide_prepare;
     const COMPLETE: Complete<Self> = raw::founded_wide_complete;
+    const UNFOUNDED: Option<Complete<Self>> = None;
 
     fn work_words(graph: &[Self]) -> usize {
         // Safety: pointer and length are those of a slice.

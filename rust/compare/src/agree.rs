@@ -138,6 +138,8 @@ pub struct Answers {
     marked: Result<Vec<u64>, Refusal>,
     /// The missing list for each pair of masks; with 12 there is none.
     missing: Vec<Vec<u64>>,
+    /// The same of request 6's list, which the document alone answers, in edition 1.
+    unfounded: Vec<Vec<u64>>,
 }
 
 /// Demand 3 is tried over all sets up to this many atoms.
@@ -260,19 +262,24 @@ fn answers<W: Word>(
     let rows = |end: Ended| on(words, None)(format!("rows: {end:?}"));
     let original = Oracle::new(words).map_err(rows)?;
     let loops = static_answers(&graph, &original).map_err(on(words, None))?;
-    let (marked, missing) = match graph.prepared() {
+    let (mut missing, mut unfounded) = (vec![], vec![]);
+    let marked = match graph.prepared() {
         Ok(prepared) => {
             let marked = marks(&prepared, &original).map_err(on(words, None))?;
-            let mut missing = vec![];
             for pair in masks {
-                let list = pass(&prepared, &original, pair, tally);
-                missing.push(list.map_err(on(words, Some(pair)))?);
+                let list =
+                    pass(&prepared, &original, pair, tally).map_err(on(words, Some(pair)))?;
+                if W::EDITION.number == 1 {
+                    let wider = unsupported(&prepared, &list, pair);
+                    unfounded.push(wider.map_err(on(words, Some(pair)))?);
+                }
+                missing.push(list);
             }
-            (Ok(marked), missing)
+            Ok(marked)
         }
         Err(refusal) => {
             refused_with_12(&original, masks).map_err(on(words, None))?;
-            (Err(refusal), vec![])
+            Err(refusal)
         }
     };
     Ok(Answers {
@@ -280,6 +287,7 @@ fn answers<W: Word>(
         loops,
         marked,
         missing,
+        unfounded,
     })
 }
 
@@ -351,6 +359,33 @@ fn pass(
     Ok(packed)
 }
 
+/// Request 6's list in the document's reading: with few atoms the uncut part of the
+/// union of all unfounded sets, and always with each atom of the old list.
+fn unsupported(
+    prepared: &Prepared<'_>,
+    missing: &[u64],
+    (never, atom_never): &Masks,
+) -> Result<Vec<u64>, String> {
+    let list = prepared.unsupported(never, atom_never);
+    if prepared.graph.atoms <= MOST_ATOMS_FOR_SETS {
+        let greatest = paper::groups::greatest_uncut(prepared, never, atom_never);
+        equal(
+            "left unsupported and the greatest unfounded set, uncut",
+            &list,
+            &greatest,
+        )?;
+    }
+    let packed = paper::pack(&list);
+    if missing
+        .iter()
+        .zip(&packed)
+        .any(|(old, new)| old & !new != 0)
+    {
+        return Err("an atom is missing and not left unsupported".into());
+    }
+    Ok(packed)
+}
+
 /// The proved calls on an accepted graph, against its answers.
 fn proved<W: Word>(
     words: &[W],
@@ -370,6 +405,9 @@ fn proved<W: Word>(
         let expected = prepared.map(|_| &answers.missing[i][..]);
         ours.complete(&pair.0, &pair.1, lengths, expected)
             .map_err(on(words, Some(pair)))?;
+        let expected = prepared.map(|_| answers.unfounded.get(i).map_or(&[][..], |list| list));
+        ours.unfounded(&pair.0, &pair.1, lengths, expected)
+            .map_err(on(words, Some(pair)))?;
     }
     Ok(())
 }
@@ -384,6 +422,7 @@ fn refused<W: Word>(refusal: &Refusal, ours: &mut Ours<W>) -> Result<(), String>
     let lengths = Lengths { output: 1, work };
     ours.prepare(lengths, Err(refusal))?;
     ours.complete(&[!0], &[1, 0], lengths, Err(refusal))?;
+    ours.unfounded(&[!0], &[1, 0], lengths, Err(refusal))?;
     ours.unchanged()
 }
 
@@ -435,6 +474,8 @@ fn tried_lengths<W: Word>(words: &[W], ours: &mut Ours<W>) -> Result<(), String>
         let expected = paper::complete(words, &never, &atom_never, output, work);
         let lengths = Lengths { output, work };
         ours.complete(&never, &atom_never, lengths, expected.as_deref())?;
+        let expected = paper::unfounded(words, &never, &atom_never, output, work);
+        ours.unfounded(&never, &atom_never, lengths, expected.as_deref())?;
     }
     ours.unchanged()
 }

@@ -39,19 +39,24 @@ pub struct Calls<W: Word> {
     pub work_words: Option<unsafe extern "C" fn(*const W, usize) -> u64>,
     pub needed: unsafe extern "C" fn(*const W, usize, *mut W, usize) -> W::Code,
     pub prepare: unsafe extern "C" fn(*const W, usize, *mut u64, usize, *mut W, usize) -> W::Code,
-    pub complete: unsafe extern "C" fn(
-        *const W,
-        usize,
-        *const u64,
-        usize,
-        *const u64,
-        usize,
-        *mut u64,
-        usize,
-        *mut W,
-        usize,
-    ) -> W::Code,
+    pub complete: Pass<W>,
+    /// Request 6's call, in edition 1 alone.
+    pub unfounded: Option<Pass<W>>,
 }
+
+/// Graph, node mask, atom mask, output, work area.
+pub type Pass<W> = unsafe extern "C" fn(
+    *const W,
+    usize,
+    *const u64,
+    usize,
+    *const u64,
+    usize,
+    *mut u64,
+    usize,
+    *mut W,
+    usize,
+) -> <W as Word>::Code;
 
 impl Word for u16 {
     type Code = u32;
@@ -64,6 +69,7 @@ impl Word for u16 {
         needed: raw::founded_needed,
         prepare: raw::founded_prepare,
         complete: raw::founded_complete,
+        unfounded: Some(raw::founded_unfounded),
     };
 
     fn cut(bits: u64) -> Self {
@@ -94,6 +100,7 @@ impl Word for u32 {
         needed: raw::founded_wide_needed,
         prepare: raw::founded_wide_prepare,
         complete: raw::founded_wide_complete,
+        unfounded: None,
     };
 
     fn cut(bits: u64) -> Self {

@@ -8,7 +8,7 @@ use std::ops::Range;
 
 use paper::{Graph, Refusal};
 
-use crate::calls::{Calls, Word};
+use crate::calls::{Calls, Pass, Word};
 use crate::rng::Rng;
 
 /// The numbers of refusals are below this.
@@ -23,6 +23,8 @@ pub struct Made {
     pub needed: u64,
     pub prepare: u64,
     pub complete: u64,
+    /// Not in edition 2.
+    pub unfounded: u64,
     pub refused: [u64; NUMBERS],
 }
 
@@ -33,13 +35,14 @@ impl Made {
         self.needed += other.needed;
         self.prepare += other.prepare;
         self.complete += other.complete;
+        self.unfounded += other.unfounded;
         for (number, count) in other.refused.iter().enumerate() {
             self.refused[number] += count;
         }
     }
 
     pub fn all(&self) -> u64 {
-        self.check + self.work_words + self.needed + self.prepare + self.complete
+        self.check + self.work_words + self.needed + self.prepare + self.complete + self.unfounded
     }
 }
 
@@ -298,6 +301,35 @@ impl<W: Word> Ours<W> {
         expected: Result<&[u64], &Refusal>,
     ) -> Result<(), String> {
         self.made.complete += 1;
+        let masks = (never, atom_never);
+        self.pass("complete", self.calls.complete, masks, lengths, expected)
+    }
+
+    /// # Errors
+    /// As [`Self::check`].
+    pub fn unfounded(
+        &mut self,
+        never: &[u64],
+        atom_never: &[u64],
+        lengths: Lengths,
+        expected: Result<&[u64], &Refusal>,
+    ) -> Result<(), String> {
+        let Some(unfounded) = self.calls.unfounded else {
+            return Ok(());
+        };
+        self.made.unfounded += 1;
+        let masks = (never, atom_never);
+        self.pass("unfounded", unfounded, masks, lengths, expected)
+    }
+
+    fn pass(
+        &mut self,
+        name: &str,
+        call: Pass<W>,
+        (never, atom_never): (&[u64], &[u64]),
+        lengths: Lengths,
+        expected: Result<&[u64], &Refusal>,
+    ) -> Result<(), String> {
         self.never.lend(never.iter().copied());
         self.atom_never.lend(atom_never.iter().copied());
         self.lend_output(lengths.output);
@@ -305,7 +337,7 @@ impl<W: Word> Ours<W> {
         let (output, area) = (self.output.start(), self.work.lend(lengths.work));
         // Safety: each slice lies within a buffer of its own.
         let found = unsafe {
-            (self.calls.complete)(
+            call(
                 graph,
                 graph_len,
                 self.never.start(),
@@ -318,10 +350,10 @@ impl<W: Word> Ours<W> {
                 lengths.work,
             )
         };
-        self.answered("complete", found, expected.map(|_| 0))?;
-        self.read_only("complete")?;
-        self.output_left("complete", expected)?;
-        self.work_left("complete", expected.err())
+        self.answered(name, found, expected.map(|_| 0))?;
+        self.read_only(name)?;
+        self.output_left(name, expected)?;
+        self.work_left(name, expected.err())
     }
 
     /// The output, filled with wild words that differ from call to call.

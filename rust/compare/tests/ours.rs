@@ -338,6 +338,52 @@ fn each_fault_is_seen_beside_edition_1() {
     }
 }
 
+/// Request 6's call with atoms cut nowhere.
+#[allow(clippy::too_many_arguments)]
+unsafe extern "C" fn atoms_uncut(
+    graph: *const u16,
+    graph_len: usize,
+    never: *const u64,
+    never_len: usize,
+    _: *const u64,
+    atom_never_len: usize,
+    output: *mut u64,
+    output_len: usize,
+    work: *mut u16,
+    work_len: usize,
+) -> u32 {
+    let clear = vec![0; atom_never_len];
+    let unfounded = u16::ARCHIVE.unfounded.expect("a call of edition 1");
+    // Safety: `clear` is as long as the mask that was lent.
+    unsafe {
+        unfounded(
+            graph,
+            graph_len,
+            never,
+            never_len,
+            clear.as_ptr(),
+            atom_never_len,
+            output,
+            output_len,
+            work,
+            work_len,
+        )
+    }
+}
+
+#[test]
+fn each_fault_of_request_6_is_seen() {
+    let old = Some(u16::ARCHIVE.complete);
+    let faults = [
+        with(|calls| calls.unfounded = old),
+        with(|calls| calls.unfounded = Some(atoms_uncut)),
+    ];
+    seen(
+        &faults.map(|calls| (calls, "our unfounded's output")),
+        &small(),
+    );
+}
+
 /// Faults that edition 2 is likely to have.
 #[allow(unused_unsafe)] // Not every body needs it.
 mod wide_fault {

@@ -1,6 +1,6 @@
 //! The calls over plain slices, once for both widths. Rust's borrow rules keep the buffers apart, as the calls need.
 
-use crate::{Refusal, Word, chains};
+use crate::{Refusal, Word, chains, raw};
 
 /// The length of the work area in edition 1, in 16-bit words. In edition 2 it depends on the graph: [`wide::work_words`].
 pub const WORK_WORDS: usize = 32_768;
@@ -87,6 +87,30 @@ pub fn complete<W: Word>(
     })
 }
 
+pub fn unfounded(
+    graph: &[u16],
+    never: &[u64],
+    atom_never: &[u64],
+    output: &mut [u64],
+    work: &mut [u16],
+) -> Result<(), Refusal> {
+    // SAFETY: as in `prepare`.
+    answer(graph, unsafe {
+        raw::founded_unfounded(
+            graph.as_ptr(),
+            graph.len(),
+            never.as_ptr(),
+            never.len(),
+            atom_never.as_ptr(),
+            atom_never.len(),
+            output.as_mut_ptr(),
+            output.len(),
+            work.as_mut_ptr(),
+            work.len(),
+        )
+    })
+}
+
 /// The four calls by name, for words of one type.
 macro_rules! named {
     ($word:ty) => {
@@ -141,6 +165,22 @@ macro_rules! named {
 /// On graphs of edition 1. The crate has these names at its top.
 pub mod narrow {
     named!(u16);
+
+    /// The pass with every atom marked (document 02, request 6): the output lists the uncut atoms that are left unfounded, those that nothing produces and those that only hold each other
+    /// up. These are the uncut atoms of the greatest unfounded set of Van Gelder, Ross and Schlipf (1991); each atom on the pass's list is among them. It leaves output and work area as
+    /// [`prepare`] does.
+    ///
+    /// # Errors
+    /// The first of 1 to 12 and 14 that applies.
+    pub fn unfounded(
+        graph: &[u16],
+        never: &[u64],
+        atom_never: &[u64],
+        output: &mut [u64],
+        work: &mut [u16],
+    ) -> Result<(), Refusal> {
+        calls::unfounded(graph, never, atom_never, output, work)
+    }
 }
 
 /// The calls on graphs of edition 2, in 32-bit words.

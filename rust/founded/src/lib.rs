@@ -45,7 +45,7 @@
 //! | most atoms, nodes, producers | 1,024 each | 262,144 each |
 //! | most links, leaf entries, head entries | 4,096 each | 1,048,576 each |
 //! | work area | 32,768 words | as the graph's size asks: [`wide::work_words`] |
-//! | calls over plain slices | [`check`], [`needed`], [`prepare`], [`complete`] | the same names in [`wide`] |
+//! | calls over plain slices | [`check`], [`needed`], [`prepare`], [`complete`], [`unfounded`] | the first four in [`wide`] |
 //!
 //! Ids, masks, lists and refusals are the same in both. A theory that is too large for edition 1 is told so by `build`:
 //!
@@ -71,7 +71,7 @@
 //! # What there is
 //!
 //! - [`Theory`] builds a graph, [`Graph`] or [`WideGraph`] holds the words of one that the proved check has accepted. [`GraphOf::from_words`] takes words from outside. [`Graph::widen`] goes from edition 1 to edition 2.
-//! - [`Solver`] owns the work area and the output and runs the loop test, the preparation and the pass.
+//! - [`Solver`] owns the work area and the output and runs the loop test, the preparation and the pass, and on a [`Graph`] the pass with every atom marked ([`Solver::unfounded`]).
 //! - [`check`], [`needed`], [`prepare`] and [`complete`], here and in [`wide`], are the four calls over plain slices, for callers that keep their own memory.
 //! - [`raw`] has them as the archive does.
 //! - A call is turned away by a [`Refusal`], with the number and place of docs/FORMAT.md's table.
@@ -87,7 +87,7 @@ mod solver;
 mod theory;
 mod word;
 
-pub use calls::narrow::{check, complete, needed, prepare};
+pub use calls::narrow::{check, complete, needed, prepare, unfounded};
 pub use calls::{WORK_WORDS, mask_words, wide};
 pub use error::Error;
 pub use graph::{Graph, GraphOf, WideGraph};

@@ -78,3 +78,26 @@ impl<W: Word> Solver<W> {
         Ok(Atoms::of(output))
     }
 }
+
+impl Solver<u16> {
+    /// The pass with every atom marked: the uncut atoms that are left unfounded, under the cuts of the two masks. Those that nothing produces are on this list too.
+    ///
+    /// # Errors
+    /// As [`Self::complete`].
+    pub fn unfounded(
+        &mut self,
+        graph: &GraphOf<u16>,
+        never: &NodeMask,
+        atom_never: &AtomMask,
+    ) -> Result<Atoms<'_>, Refusal> {
+        let (output, work) = self.lent(graph);
+        calls::unfounded(
+            graph.words(),
+            never.words(),
+            atom_never.words(),
+            output,
+            work,
+        )?;
+        Ok(Atoms::of(output))
+    }
+}

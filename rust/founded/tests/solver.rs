@@ -122,3 +122,47 @@ fn large_small_and_large_again() {
         assert!(missing.words() == list);
     }
 }
+
+/// The call of request 6, beside the pass: on graphs of docs/FORMAT.md, and one solver
+/// over many as the calls in fresh memory.
+#[test]
+fn unfounded_beside_the_pass() {
+    let mut solver = Solver::new();
+    let mut both = |words: &[u16], never: u64, atom_never: u64| {
+        let mut output = [0];
+        let mut work = vec![0; founded::WORK_WORDS];
+        founded::unfounded(
+            words,
+            &[never][..mask_words(words[2].into())],
+            &[atom_never],
+            &mut output,
+            &mut work,
+        )
+        .unwrap();
+        let graph = GraphOf::from_words(words.to_vec()).unwrap();
+        let cuts = |mask: u64| (0..64).filter(move |n| mask >> n & 1 == 1);
+        let never = NodeMask::of(&graph, cuts(never).map(NodeId)).unwrap();
+        let atom_never = AtomMask::of(&graph, cuts(atom_never).map(AtomId)).unwrap();
+        let list = solver.unfounded(&graph, &never, &atom_never);
+        assert_eq!(list.map(|list| list.words().to_vec()), Ok(output.to_vec()));
+        let missing = solver.complete(&graph, &never, &atom_never);
+        (output[0], missing.unwrap().words()[0])
+    };
+    // One atom that nothing produces.
+    assert_eq!(both(&[1, 1, 0, 0, 0], 0, 0), (1, 0));
+    assert_eq!(both(&[1, 1, 0, 0, 0], 0, 1), (0, 0));
+    // The heater and the latch, and the same with a fact.
+    let heater = [1, 2, 2, 2, 2, 1, 0, 0, 1, 1, 0, 2, 1, 1, 2, 0, 0, 1, 0];
+    assert_eq!(both(&heater, 0, 0), (3, 3));
+    let fact = [
+        1, 2, 2, 3, 2, 1, 0, 0, 1, 1, 0, 2, 1, 1, 2, 0, 1, 0, 0, 1, 0,
+    ];
+    assert_eq!(both(&fact, 0, 0), (0, 0));
+    // And, Or and a shared tail: nothing produces atom 2.
+    let shared = [
+        1, 3, 5, 2, 5, 1, 0, 0, 1, 1, 0, 1, 2, 0, 3, 0, 1, 2, 0, 2, 4, 4, 5, 5, 1, 3, 0, 3, 2, 0,
+        0, 0, 1, 0,
+    ];
+    assert_eq!(both(&shared, 0, 0), (7, 0));
+    assert_eq!(both(&shared, 0, 4), (3, 3));
+}

@@ -3,6 +3,7 @@
 
 use crate::edition::Word;
 use crate::graph::Graph;
+use crate::meaning::Prepared;
 use crate::table::Refusal;
 use crate::{mask_len, pack};
 
@@ -66,6 +67,33 @@ pub fn complete<W: Word>(
     output_len: usize,
     work_len: usize,
 ) -> Result<Vec<u64>, Refusal> {
+    let lent = (never, atom_never, output_len, work_len);
+    listed(words, lent, |prepared| prepared.missing(never, atom_never))
+}
+
+/// Request 6's call, beside the pass and with the same rows. The output's words.
+///
+/// # Errors
+/// The first row that applies.
+pub fn unfounded<W: Word>(
+    words: &[W],
+    never: &[u64],
+    atom_never: &[u64],
+    output_len: usize,
+    work_len: usize,
+) -> Result<Vec<u64>, Refusal> {
+    let lent = (never, atom_never, output_len, work_len);
+    listed(words, lent, |prepared| {
+        prepared.unsupported(never, atom_never)
+    })
+}
+
+/// All rows, and a list of states.
+fn listed<W: Word>(
+    words: &[W],
+    (never, atom_never, output_len, work_len): (&[u64], &[u64], usize, usize),
+    list: impl Fn(&Prepared<'_>) -> Vec<bool>,
+) -> Result<Vec<u64>, Refusal> {
     let graph = Graph::decode(words)?;
     lengths(&[
         (never.len(), graph.nodes.len()),
@@ -73,5 +101,5 @@ pub fn complete<W: Word>(
         (output_len, graph.atoms),
     ])?;
     work_area::<W>(work_len, &graph)?;
-    Ok(pack(&graph.prepared()?.missing(never, atom_never)))
+    Ok(pack(&list(&graph.prepared()?)))
 }

@@ -1,15 +1,16 @@
-//! Document 01, and requests 5 and 9 of document 02, in slow, plain Rust, written
+//! Document 01, and requests 5, 6 and 9 of document 02, in slow, plain Rust, written
 //! from their text alone.
 //!
 //! - [`Edition`], [`Word`]: what an edition has of its own; 16-bit words are of
 //!   edition 1, 32-bit words of edition 2;
 //! - [`check`]: the refusal table's rows 1 to 9 and 14;
-//! - [`needed`], [`prepare`], [`complete`]: the calls, with rows 10 to 12;
+//! - [`needed`], [`prepare`], [`complete`], [`unfounded`]: the calls, with rows 10
+//!   to 12;
 //! - [`work_words`]: the length that row 11 asks for;
 //! - [`program`]: standard input's bytes to the program's text;
 //! - [`Graph`], [`Prepared`]: the meaning, from which the calls are made;
 //! - [`large`]: closed chains and support in graphs too large for the slow ways;
-//! - [`groups`]: unearned groups, by trying every set of atoms.
+//! - [`groups`]: unearned groups and unfounded sets, by trying every set of atoms.
 
 mod calls;
 mod closure;
@@ -22,7 +23,7 @@ pub mod program;
 mod table;
 mod truth;
 
-pub use calls::{complete, needed, prepare, work_words};
+pub use calls::{complete, needed, prepare, unfounded, work_words};
 pub use edition::{EDITION_1, EDITION_2, Edition, WORK_WORDS, Word};
 pub use graph::{Graph, Kind, Node, Rule};
 pub use meaning::{Prepared, Rows, marked_by_components};

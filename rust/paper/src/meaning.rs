@@ -196,4 +196,28 @@ impl Prepared<'_> {
         let missing = |a: usize| self.marked[a] && !is_cut(atom_never, a) && !supported[a];
         (0..self.graph.atoms).map(missing).collect()
     }
+
+    /// Request 6: every uncut state left unsupported, where Atom(a) is true only if
+    /// a is supported and a head needs no mark. By naive iteration.
+    pub fn unsupported(&self, never: &[u64], atom_never: &[u64]) -> Vec<bool> {
+        let cut = |a: usize| is_cut(atom_never, a);
+        let mut supported = vec![false; self.graph.atoms];
+        loop {
+            let before = supported.clone();
+            let truth = self.graph.truth(&self.cone, never, |a| before[a]);
+            for rule in &self.graph.rules {
+                if rule.body.is_none_or(|body| truth[body]) {
+                    for &head in &rule.heads {
+                        supported[head] |= !cut(head);
+                    }
+                }
+            }
+            if supported == before {
+                break;
+            }
+        }
+        (0..self.graph.atoms)
+            .map(|a| !cut(a) && !supported[a])
+            .collect()
+    }
 }

@@ -150,6 +150,7 @@ impl Cell {
             Call::LoopTest => "needed",
             Call::Preparation => "prepare",
             Call::Pass => "complete",
+            Call::Unfounded => "unfounded",
         };
         let width = if self.edition == 1 { "" } else { "wide_" };
         format!("founded_{width}{call}")
