@@ -1,6 +1,6 @@
 -- A code that is made of an answer's number and place tells the answer (`told`). Preparation, pass and the list of what nothing produces, whose code tells their answer (`prepared_told`, `completed_told`, `unfounded_told`); over masks
 -- filled up with zero words the pass gives the same code and leaves the same words (`filled_told`). The loop test's number (`needed_told`): it tells the outcome, and on success it is 1 exactly if there is a closed walk. How many words the
--- work area has: `words_refused`, `words_accepted`.
+-- work area has: `words_refused`, `words_accepted`. The place in the comparison's answer fits the low half (`compared_placed`).
 use mathlib.Core.Path.{◌≡◌, refl, sym, ap, ◌∙◌}
 use mathlib.Core.Logic.{◌↔◌}
 use mathlib.Core.Bool.{Bool, true, false, not, cond, true≢false}
@@ -21,10 +21,12 @@ use Rattle.refusals.specs.declared.Refusal.{Refusal}
 use Rattle.refusals.proofs.RefusedLaws.{number_some}
 use Rattle.refusals.proofs.PlaceLaws.{if_place, or_place, graph_place}
 use Rattle.cycles.specs.Outcome.{Outcome, refused, loops, refusal, outcome, work_after, ClosedWalk}
+use Rattle.theory.specs.Order.{content_cmp}
+use Rattle.compare.specs.Comparison.{Comparison, turned_away, ordered, refusal_of_two, comparison}
 use Rattle.founded.specs.declared.CallError.{CallError}
 use Rattle.founded.specs.Answers.{call_of, Prepares, Completes}
 use Rattle.founded.proofs.ShortLaws.{filled, filled_answer, filled_leaves}
-use Rattle.abi.specs.Codes.{code_of, Tells, NeedTells, Placed, Needed, PreparedAs, CompletedAs, work_words, UnfoundedAs}
+use Rattle.abi.specs.Codes.{code_of, Tells, NeedTells, Placed, Needed, PreparedAs, CompletedAs, work_words, UnfoundedAs, ComparisonPlaced}
 use Rattle.unfounded.specs.Unproduced.{ListsUnfounded}
 
 pub told : {lim : ℕ} {a : Answer} {n p r : ℕ} → n ≡ a.number → p ≡ a.place → Tells lim (refuse n p) r → Tells lim a r
@@ -75,6 +77,18 @@ module _ (lim : ℕ) (ed : Edition) where
       low = or_place some (graph_answer ed graph) (refuse_if 11 bad) (graph_place some ed graph n p k) (if_place some 11 bad)
 
       go : (t : Bool) → Placed lim (cond t (loops (has_cycle (theory_of graph))) (refused (refusal ed graph work)))
+      go true = tt
+      go false = low
+
+  -- so does that of the comparison
+  pub compared_placed : {r : Comparison} (x y : List ℕ) → r ≡ comparison ed x y → 0 < lim → get_or x 2 0 < lim → get_or x 3 0 < lim → get_or x 4 0 < lim
+      → get_or y 2 0 < lim → get_or y 3 0 < lim → get_or y 4 0 < lim → ComparisonPlaced lim r
+  compared_placed x y e some n p k n' p' k' = rw e (go (eqb (refusal_of_two ed x y).number 0))
+    where
+      low : (refusal_of_two ed x y).place < lim
+      low = or_place some (graph_answer ed x) (graph_answer ed y) (graph_place some ed x n p k) (graph_place some ed y n' p' k')
+
+      go : (t : Bool) → ComparisonPlaced lim (cond t (ordered (content_cmp x y)) (turned_away (refusal_of_two ed x y)))
       go true = tt
       go false = low
 

@@ -5,6 +5,9 @@ use Rattle.theory.specs.Words.{theory_of}
 use Rattle.theory.specs.Accepted.{Edition, area_of}
 use Rattle.refusals.specs.Answer.{Answer}
 use Rattle.refusals.specs.Refusals.{graph_answer}
+use Rattle.std.specs.declared.cmp.Ordering.{Ordering}
+use Rattle.std.specs.declared.cmp.Ordering.TheVariants.{Less, Equal, Greater}
+use Rattle.compare.specs.Comparison.{Comparison, turned_away, ordered}
 use Rattle.cycles.specs.Outcome.{Outcome, refused, loops, refusal, outcome, work_after, ClosedWalk}
 use Rattle.founded.specs.Answers.{prepare_answer, complete_answer, PrepareLeaves, CompleteLeaves}
 use Rattle.unfounded.specs.Unproduced.{UnfoundedLeaves}
@@ -26,6 +29,21 @@ NeedTells lim (loops b) r = r ≡ cond b 1 0
 abbrev pub Placed : (lim : ℕ) → Outcome → Type 0
 Placed lim (refused a) = a.place < lim
 Placed lim (loops b) = Unit {0}
+
+-- the comparison: 0 for equal, 1 for less and 2 for greater. A refusal's code is lim or more.
+abbrev pub order_code : Ordering → ℕ
+order_code Less = 1
+order_code Equal = 0
+order_code Greater = 2
+
+abbrev pub ComparisonTells : (lim : ℕ) → Comparison → ℕ → Type 0
+ComparisonTells lim (turned_away a) r = Tells lim a r
+ComparisonTells lim (ordered o) r = r ≡ order_code o
+
+-- the place in a refusal, if it is one, fits the low half
+abbrev pub ComparisonPlaced : (lim : ℕ) → Comparison → Type 0
+ComparisonPlaced lim (turned_away a) = a.place < lim
+ComparisonPlaced lim (ordered o) = Unit {0}
 
 module _ (lim : ℕ) (ed : Edition) where
   pub record Needed (graph work work' : List ℕ) (r : ℕ) : Type 0 where

@@ -4,14 +4,16 @@ ghost use Rattle.std.specs.Prelude.{ℕ, ◌<◌, ◌≤◌};
 ghost use Rattle.std.proofs.Common.{arith};
 ghost use Rattle.refusals.specs.Answer.{refuse};
 ghost use Rattle.refusals.specs.Refusals.{answer_of};
+ghost use Rattle.compare.specs.Comparison.{comparison_of};
 ghost use Rattle.cycles.specs.Outcome.{outcome_of};
 ghost use Rattle.founded.specs.Answers.{call_of};
-ghost use Rattle.abi.specs.Codes.{Tells, NeedTells, Placed};
+ghost use Rattle.abi.specs.Codes.{Tells, NeedTells, Placed, ComparisonTells, ComparisonPlaced};
 
 use cycles::NeedError;
 use founded::CallError;
 use numbers::Numbered;
 use refusals::Refusal;
+use std::cmp::Ordering;
 
 pub trait Code: Copy {
     ghost value: { Self → ℕ };
@@ -24,7 +26,7 @@ pub trait Code: Copy {
         requires { (number < 65536) × (place < limit) }
         ensures { Tells limit (refuse number place) (value result) };
 
-    ghost two: { 2 ≤ limit };
+    ghost three: { 3 ≤ limit };
 }
 
 // The C interface has a code of 32 bits and one of 64, so there are two impls, and each is the header's formula with its own base. Their `requires` keeps the sum within the code, so
@@ -34,7 +36,7 @@ impl Code for u32 {
 
     ghost limit = { 65536 };
 
-    ghost two = { omega arith };
+    ghost three = { omega arith };
 
     fn of(number: usize, place: usize) -> u32 {
         (number * 65536 + place) as u32
@@ -46,7 +48,7 @@ impl Code for u64 {
 
     ghost limit = { 4294967296 };
 
-    ghost two = { omega arith };
+    ghost three = { omega arith };
 
     fn of(number: usize, place: usize) -> u64 {
         (number * 4294967296 + place) as u64
@@ -87,4 +89,19 @@ pub fn call_code<C: Code>(answered: Result<(), CallError>) -> C
         numbers::completed_number(answered),
         numbers::completed_place(answered),
     )
+}
+
+pub fn compared_code<C: Code>(compared: Result<Ordering, Refusal>) -> C
+    requires { ComparisonPlaced C.limit (comparison_of compared) }
+    ensures { ComparisonTells C.limit (comparison_of compared) (C.value result) }
+{
+    match compared {
+        Ok(Ordering::Equal) => C::of(0, 0),
+        Ok(Ordering::Less) => C::of(0, 1),
+        Ok(Ordering::Greater) => C::of(0, 2),
+        Err(e) => {
+            let told = Numbered::from(e);
+            C::of(told.number, told.place)
+        }
+    }
 }

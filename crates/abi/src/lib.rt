@@ -9,9 +9,10 @@ pub mod wide;
 
 ghost use Rattle.theory.specs.Accepted.{edition1};
 ghost use Rattle.refusals.specs.Refusals.{graph_answer};
-ghost use Rattle.abi.specs.Codes.{Tells, Needed, PreparedAs, CompletedAs, UnfoundedAs};
+ghost use Rattle.abi.specs.Codes.{Tells, Needed, PreparedAs, CompletedAs, UnfoundedAs, ComparisonTells};
+ghost use Rattle.compare.specs.Comparison.{comparison};
 
-use crate::codes::{call_code, checked_code, needed_code};
+use crate::codes::{call_code, checked_code, compared_code, needed_code};
 
 // The graph check.
 #[unsafe(no_mangle)]
@@ -63,4 +64,12 @@ pub extern "C" fn founded_unfounded(
     ensures { UnfoundedAs 65536 edition1 graph.now never.now atom_never.now output.old work.old output.new work.new result }
 {
     call_code(unfounded::unfounded(graph, never, atom_never, output, work))
+}
+
+// One order for graphs, by content.
+#[unsafe(no_mangle)]
+pub extern "C" fn founded_compare(graph: &[u16], other: &[u16]) -> u32
+    ensures { ComparisonTells 65536 (comparison edition1 graph.now other.now) result }
+{
+    compared_code(compare::compare(graph, other))
 }

@@ -5,7 +5,8 @@
 ghost use Rattle.std.specs.Prelude.{◌≡◌};
 ghost use Rattle.theory.specs.Accepted.{edition1, edition2};
 ghost use Rattle.refusals.specs.Refusals.{graph_answer};
-ghost use Rattle.abi.specs.Codes.{Tells, Needed, PreparedAs, CompletedAs, UnfoundedAs, work_words};
+ghost use Rattle.abi.specs.Codes.{Tells, Needed, PreparedAs, CompletedAs, UnfoundedAs, work_words, ComparisonTells};
+ghost use Rattle.compare.specs.Comparison.{comparison};
 
 // Graphs of edition 1: the graph check.
 #[unsafe(no_mangle)]
@@ -57,6 +58,14 @@ pub extern "C" fn founded_unfounded(
     ensures { UnfoundedAs 65536 edition1 graph.now never.now atom_never.now output.old work.old output.new work.new result }
 {
     abi::founded_unfounded(graph, never, atom_never, output, work)
+}
+
+// One order for graphs, by content.
+#[unsafe(no_mangle)]
+pub extern "C" fn founded_compare(graph: &[u16], other: &[u16]) -> u32
+    ensures { ComparisonTells 65536 (comparison edition1 graph.now other.now) result }
+{
+    abi::founded_compare(graph, other)
 }
 
 // Graphs of edition 2: the graph check.

@@ -1,1 +1,2 @@
 pub mod EditionLaws
+pub mod EqualLaws

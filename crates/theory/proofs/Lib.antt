@@ -28,6 +28,7 @@ pub mod RoleLaws
 pub mod ClosedLaws
 pub mod AlikeLaws
 pub mod ContentLaws
+pub mod OrderLaws
 pub mod CutLaws
 pub mod LoopLaws
 pub mod EveryAtomLaws

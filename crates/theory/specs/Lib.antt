@@ -25,3 +25,4 @@ pub mod Starting
 pub mod Roles
 pub mod Alike
 pub mod Content
+pub mod Order

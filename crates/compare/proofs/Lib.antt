@@ -1,0 +1,4 @@
+pub mod BesideLaws
+pub mod ListLaws
+pub mod RecordLaws
+pub mod PassLaws
