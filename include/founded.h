@@ -5,7 +5,7 @@
  * Each call is proved to end and to keep the promises below whatever the words hold. The proof takes for granted that the caller lends memory as follows, for
  * C checks none of it:
  * - Each pointer is valid for as many elements as the length after it says, is aligned to its type, and is not null, also where the length is 0.
- * - A buffer that is written (output, work) overlaps no other buffer of the call. Those that are only read (graph, never, atom_never) may overlap each other.
+ * - A buffer that is written (output, work) overlaps no other buffer of the call. Those that are only read (graph, other, never, atom_never) may overlap each other.
  * - Nobody else writes to any of them, or reads one that is written, while the call runs.
  * Nothing is remembered between calls, and so threads may call at once, each with its own output and work area.
  *
@@ -48,13 +48,16 @@
 /* 1 if the code has so many bytes; if not, it does not compile: no array has -1 elements. */
 #define FOUNDED_IF_BYTES(code, bytes) sizeof(char[sizeof(code) == (bytes) ? 1 : -1])
 
-/* Number and place of a code of 32 bits. Of the loop test 0 and 1 are no refusals: their number is 0. */
+/* Number and place of a code of 32 bits. Of the loop test 0 and 1 are no refusals, and of the comparison 0, 1 and 2: their number is 0. */
 #define FOUNDED_NUMBER(code) ((uint32_t)(code) >> (16 * FOUNDED_IF_BYTES(code, 4)))
 #define FOUNDED_PLACE(code) ((uint32_t)(code) & (0xffffu * (uint32_t)FOUNDED_IF_BYTES(code, 4)))
 
 /* The same of a code of 64 bits. */
 #define FOUNDED_WIDE_NUMBER(code) ((uint32_t)((uint64_t)(code) >> (32 * FOUNDED_IF_BYTES(code, 8))))
 #define FOUNDED_WIDE_PLACE(code) ((uint32_t)((uint64_t)(code) & (0xffffffffu * FOUNDED_IF_BYTES(code, 8))))
+
+/* -1, 0 or 1, as qsort's function gives it, of founded_compare's answer 1, 0 or 2: less, equal, greater. Not of a refusal's code. The answer is looked at once. */
+#define FOUNDED_ORDER(answer) ((int)((2 * (uint32_t)(answer) + 1) % (3 * (uint32_t)FOUNDED_IF_BYTES(answer, 4))) - 1)
 
 /* The numbers, as in the table of docs/FORMAT.md, for both editions. Where no place is named it is 0. */
 enum founded_refusal {
@@ -117,6 +120,13 @@ uint64_t founded_wide_complete(const uint32_t *graph, size_t graph_len, const ui
  * cut atoms and cut nodes taken as false and opaque nodes as true unless cut. Each atom on the pass's list is on this one. Or the code of a refusal of 1 to 12 or 14. */
 uint32_t founded_unfounded(const uint16_t *graph, size_t graph_len, const uint64_t *never, size_t never_len, const uint64_t *atom_never,
                            size_t atom_never_len, uint64_t *output, size_t output_len, uint16_t *work, size_t work_len);
+
+/* One order for graphs of edition 1, by content: 0 if the two have the same content, 1 if the first comes before the second, 2 if it comes after it; or the code of a refusal of
+ * 1 to 9 or 14: the first graph's, or where that is accepted the second's. The code does not say whose it is: founded_check does. The two may be the same memory. A and N and P are
+ * compared, then node by node kind, operand and leaf list, then producer by producer body + 1 and head list. Lists go by first difference, a shorter beginning first. K, the
+ * links' numbering and links in no chain play no part. It is a total order of the contents, and equal graphs get equal answers and lists from all other calls under equal masks.
+ * It is lent no memory. On two equal graphs it takes about the time of two graph checks; where they differ, at most about that of three. */
+uint32_t founded_compare(const uint16_t *graph, size_t graph_len, const uint16_t *other, size_t other_len);
 
 #ifdef __cplusplus
 }

@@ -2,7 +2,7 @@
 use mathlib.Core.Path.{◌≡◌, refl, sym, ap, ◌∙◌, subst}
 use mathlib.Core.Bool.{true, false, true≢false}
 use mathlib.Core.List.{map}
-use Prim.Native.Nat.{ℕ, zero, suc, ◌+◌, ◌<◌}
+use Prim.Native.Nat.{ℕ, ◌+◌, ◌<◌}
 use native.Mathlib.Omega.{arith}
 use Rattle.std.specs.declared.cmp.Ordering.{Ordering}
 use Rattle.std.specs.declared.cmp.Ordering.TheVariants.{Less, Equal, Greater}
@@ -10,7 +10,7 @@ use Rattle.std.specs.Ordering.{is_ne, ordering_then}
 use Rattle.std.specs.Cmp.Lexicographic.{slice_cmp}
 use Rattle.std.specs.List.{range_with_len}
 use Rattle.compare.specs.Beside.{Beside, Stops, InTurn}
-use Rattle.theory.proofs.OrderLaws.{turns_equal}
+use Rattle.theory.proofs.OrderLaws.{decides, turns_equal, turns_stop}
 
 pub not_equal : {o : Ordering} → is_ne o ≡ true → o ≡ Equal → ⊥
 not_equal e q = true≢false (sym e ∙ ap is_ne q)
@@ -19,12 +19,6 @@ pub is_equal : (o : Ordering) → is_ne o ≡ false → o ≡ Equal
 is_equal Less e = absurd (true≢false e)
 is_equal Equal e = refl
 is_equal Greater e = absurd (true≢false e)
-
--- one that differs decides
-pub decides : (o p : Ordering) → is_ne o ≡ true → ordering_then o p ≡ o
-decides Less p e = refl
-decides Equal p e = absurd (true≢false (sym e))
-decides Greater p e = refl
 
 module _ {Good : Type 0} where
   -- a difference says nothing of the second graph
@@ -43,18 +37,6 @@ module _ {Good : Type 0} where
 -- ---- places in turn
 
 module _ {X : Type 0} (R : X → X → Ordering) (f g : ℕ → X) where
-  -- the first place that differs decides
-  turns_stop : (a k n : ℕ) {r : Ordering} → k < n → ((i : ℕ) → i < k → R (f (a + i)) (g (a + i)) ≡ Equal) → R (f (a + k)) (g (a + k)) ≡ r → is_ne r ≡ true
-      → slice_cmp R (map f (range_with_len a n)) (map g (range_with_len a n)) ≡ r
-  turns_stop a k zero l h e d = absurd (omega arith)
-  turns_stop a zero (suc n) {r} l h e d =
-      let first : R (f a) (g a) ≡ r = subst (λ (j : ℕ). R (f j) (g j) ≡ r) (omega arith) e in
-      decides (R (f a) (g a)) _ (ap is_ne first ∙ d) ∙ first
-  turns_stop a (suc k) (suc n) {r} l h e d =
-      let first : R (f a) (g a) ≡ Equal = subst (λ (j : ℕ). R (f j) (g j) ≡ Equal) (omega arith) (h 0 (omega arith)) in
-      ap (λ (o : Ordering). ordering_then o (slice_cmp R (map f (range_with_len (a + 1) n)) (map g (range_with_len (a + 1) n)))) first
-      ∙ turns_stop (a + 1) k n (omega arith) (λ i q. subst (λ (j : ℕ). R (f j) (g j) ≡ Equal) (omega arith) (h (suc i) (omega arith))) (subst (λ (j : ℕ). R (f j) (g j) ≡ r) (omega arith) e) d
-
   module _ (Good : ℕ → Type 0) (answers : ℕ → Ordering → Type 0) (end : ℕ) (each : (i : ℕ) (r : Ordering) → i < end → answers i r → Beside (Good i) (R (f i) (g i)) r) where
     abbrev Whole : Ordering
     Whole = slice_cmp R (map f (range_with_len 0 end)) (map g (range_with_len 0 end))
@@ -67,7 +49,7 @@ module _ {X : Type 0} (R : X → X → Ordering) (f g : ℕ → X) where
     same_at i l a = let b = each i Equal l a in subst (λ (j : ℕ). R (f j) (g j) ≡ Equal) (omega arith) (sym (b.told (b.good refl)))
 
     stopped : (r : Ordering) → is_ne r ≡ true → Stops answers end r → Beside All Whole r
-    stopped r e s = differs e (λ good. sym (turns_stop 0 s.place end s.within
+    stopped r e s = differs e (λ good. sym (turns_stop R f g 0 s.place end s.within
         (λ i q. same_at i (omega (arith, s.within)) (s.before i q))
         (subst (λ (j : ℕ). R (f j) (g j) ≡ r) (omega arith) (sym ((each s.place r s.within s.at).told (good s.place s.within)))) e))
 

@@ -2,17 +2,17 @@
 use mathlib.Core.Path.{◌≡◌, refl, sym, ◌∙◌, subst}
 use mathlib.Core.Bool.{true, false}
 use mathlib.Core.List.{List, map}
-use Prim.Native.Nat.{ℕ, ◌+◌, ◌<◌}
+use Prim.Native.Nat.{ℕ, ◌<◌}
 use lib.ListN.{get_or}
 use Rattle.std.specs.declared.cmp.Ordering.{Ordering}
 use Rattle.std.specs.Ordering.{is_ne, nat_cmp, ordering_then}
 use Rattle.std.specs.Cmp.Lexicographic.{slice_cmp}
 use Rattle.std.specs.List.{range_with_len}
-use Rattle.theory.specs.Words.{node_at, producer_at, chain, theory_of}
+use Rattle.theory.specs.Words.{producer_at, chain, theory_of}
 use Rattle.theory.specs.Links.{MeetsOnce}
 use Rattle.graph.specs.Layout.{leaf_link, head_link}
 use Rattle.refusals.specs.Passed.{Chained}
-use Rattle.theory.specs.Order.{node_cmp, producer_cmp, node_content, producer_content, counts_cmp, content_cmp}
+use Rattle.theory.specs.Order.{record_cmp, node_cmp, producer_cmp, node_content, producer_content, counts_cmp, content_cmp}
 use Rattle.compare.specs.Beside.{Beside, InTurn}
 use Rattle.theory.proofs.OrderLaws.{Nodes, Producers, content_parts, counts_equal}
 use Rattle.compare.proofs.BesideLaws.{part_differs, part_same, is_equal, in_turn_tells}
@@ -24,7 +24,7 @@ module _ (x y : List ℕ) where
     Leaves = slice_cmp nat_cmp (chain x (leaf_link x n)) (chain y (leaf_link y n))
 
     abbrev Before : Ordering
-    Before = ordering_then (nat_cmp (get_or x (node_at n) 0) (get_or y (node_at n) 0)) (nat_cmp (get_or x (node_at n + 1) 0) (get_or y (node_at n + 1) 0))
+    Before = record_cmp (node_content x n) (node_content y n)
 
     node_parts : node_cmp (node_content x n) (node_content y n) ≡ ordering_then Before Leaves
     unfolding node_content theory_of

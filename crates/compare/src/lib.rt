@@ -8,11 +8,11 @@ ghost use Rattle.std.specs.Cmp.Lexicographic.{slice_cmp};
 ghost use Rattle.theory.specs.Words.{chain, theory_of};
 ghost use Rattle.theory.specs.Links.{MeetsOnce};
 ghost use Rattle.theory.specs.Accepted.{Accepted};
-ghost use Rattle.graph.specs.Layout.{leaf_link, head_link};
+ghost use Rattle.graph.specs.Layout.{NodeIn, leaf_link, head_link};
 ghost use Rattle.refusals.specs.Passed.{Chained};
 ghost use Rattle.refusals.specs.Answer.{accept};
 ghost use Rattle.refusals.specs.Refusals.{graph_answer};
-ghost use Rattle.theory.specs.Order.{node_content, producer_content, node_cmp, producer_cmp, counts_cmp, content_cmp};
+ghost use Rattle.theory.specs.Order.{node_content, producer_content, record_cmp, node_cmp, producer_cmp, counts_cmp, content_cmp};
 ghost use Rattle.compare.specs.Beside.{Walkable, Beside, InTurn, SideBySide};
 ghost use Rattle.compare.specs.Comparison.{comparison_of, comparison};
 
@@ -52,14 +52,23 @@ fn by_list<W: Word>(x: &[W], y: &[W], first: usize, other: usize) -> Ordering
     }
 }
 
-// Kind, operand, leaf list.
+// Kind, operand.
+#[tactic(auto, unfolding(theory::specs::Words::theory_of, theory::specs::Order::node_content))]
+fn by_record<W: Word>(x: &[W], y: &[W], n: usize) -> Ordering
+    requires { NodeIn (W.numbers x.now) n × NodeIn (W.numbers y.now) n }
+    ensures { result ≡ record_cmp (node_content (W.numbers x.now) n) (node_content (W.numbers y.now) n) }
+{
+    kind(x, n)
+        .cmp(&kind(y, n))
+        .then(operand(x, n).cmp(&operand(y, n)))
+}
+
+// Kind and operand, then the leaf list.
 fn by_node<W: Word>(x: &[W], y: &[W], n: usize) -> Ordering
     requires { SideBySide W.edition (W.numbers x.now) (W.numbers y.now) × (n < get_or (W.numbers x.now) 2 0) × (n < get_or (W.numbers y.now) 2 0) }
     ensures { Beside (MeetsOnce (W.numbers y.now) (leaf_link (W.numbers y.now) n)) (node_cmp (node_content (W.numbers x.now) n) (node_content (W.numbers y.now) n)) result }
 {
-    let found = kind(x, n)
-        .cmp(&kind(y, n))
-        .then(operand(x, n).cmp(&operand(y, n)));
+    let found = by_record(x, y, n);
     if found.is_ne() {
         return found;
     }

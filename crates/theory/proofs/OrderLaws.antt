@@ -1,14 +1,14 @@
 -- The order by content is total: reflexive, antisymmetric up to equal content, transitive, and any two graphs compare (`at_most_refl` .. `at_most_total`). Two graphs compare Equal exactly
--- if their content is the same, whatever the links' numbering (`same_content`).
+-- if their content is the same, whatever the links' numbering (`same_content`). The first node that differs decides (`node_decides`).
 use mathlib.Core.Path.{◌≡◌, refl, sym, ap, ◌∙◌, subst}
 use mathlib.Core.Logic.{◌⊎◌, inl, inr, ◌↔◌}
-use mathlib.Core.Bool.{false}
+use mathlib.Core.Bool.{true, false, true≢false}
 use mathlib.Core.List.{List, [], ◌∷◌, map}
 use Prim.Native.Nat.{ℕ, zero, suc, ◌+◌, ◌<◌}
 use native.Mathlib.Omega.{arith}
 use Rattle.std.specs.declared.cmp.Ordering.{Ordering}
 use Rattle.std.specs.declared.cmp.Ordering.TheVariants.{Less, Equal, Greater}
-use Rattle.std.specs.Ordering.{is_gt, nat_cmp, ordering_then, ordering_reverse}
+use Rattle.std.specs.Ordering.{is_gt, is_ne, nat_cmp, ordering_then, ordering_reverse}
 use Rattle.std.specs.Cmp.{IsTotalOrder, tied_itself, upto, nat_cmp_total, on_total, then_total}
 use Rattle.std.specs.Cmp.Lexicographic.{slice_cmp, lists_total, nat_list_cmp_total}
 use Rattle.std.specs.List.{range_with_len}
@@ -45,6 +45,12 @@ then_equal Less p e = never_less e
 then_equal Equal p e = (refl, e)
 then_equal Greater p e = never_greater e
 
+-- one that differs decides
+pub decides : (o p : Ordering) → is_ne o ≡ true → ordering_then o p ≡ o
+decides Less p e = refl
+decides Equal p e = absurd (true≢false (sym e))
+decides Greater p e = refl
+
 pub both_equal : {o p : Ordering} → o ≡ Equal → p ≡ Equal → ordering_then o p ≡ Equal
 both_equal e f = rw (e, f) refl
 
@@ -75,6 +81,18 @@ module _ {X : Type 0} (R : X → X → Ordering) (f g : ℕ → X) where
   equal_turns a (suc n) e zero l = subst (λ (k : ℕ). R (f k) (g k) ≡ Equal) (omega arith) (then_equal (R (f a) (g a)) _ e).0
   equal_turns a (suc n) e (suc i) l =
       subst (λ (k : ℕ). R (f k) (g k) ≡ Equal) (omega arith) (equal_turns (a + 1) n (then_equal (R (f a) (g a)) _ e).1 i (omega arith))
+
+  -- the first place that differs decides
+  pub turns_stop : (a k n : ℕ) {r : Ordering} → k < n → ((i : ℕ) → i < k → R (f (a + i)) (g (a + i)) ≡ Equal) → R (f (a + k)) (g (a + k)) ≡ r → is_ne r ≡ true
+      → slice_cmp R (map f (range_with_len a n)) (map g (range_with_len a n)) ≡ r
+  turns_stop a k zero l h e d = absurd (omega arith)
+  turns_stop a zero (suc n) {r} l h e d =
+      let first : R (f a) (g a) ≡ r = subst (λ (j : ℕ). R (f j) (g j) ≡ r) (omega arith) e in
+      decides (R (f a) (g a)) _ (ap is_ne first ∙ d) ∙ first
+  turns_stop a (suc k) (suc n) {r} l h e d =
+      let first : R (f a) (g a) ≡ Equal = subst (λ (j : ℕ). R (f j) (g j) ≡ Equal) (omega arith) (h 0 (omega arith)) in
+      ap (λ (o : Ordering). ordering_then o (slice_cmp R (map f (range_with_len (a + 1) n)) (map g (range_with_len (a + 1) n)))) first
+      ∙ turns_stop (a + 1) k n (omega arith) (λ i q. subst (λ (j : ℕ). R (f j) (g j) ≡ Equal) (omega arith) (h (suc i) (omega arith))) (subst (λ (j : ℕ). R (f j) (g j) ≡ r) (omega arith) e) d
 
   -- the same, from 0 on, where the second list may have been given another length
   turns_same : (n m : ℕ) → n ≡ m → ((i : ℕ) → i < n → R (f i) (g i) ≡ Equal) → slice_cmp R (map f (range_with_len 0 n)) (map g (range_with_len 0 m)) ≡ Equal
@@ -140,6 +158,15 @@ module _ (x y : List ℕ) where
 
   pub same_content : content_cmp x y ≡ Equal ↔ SameContent x y
   same_content = (to_content, from_content)
+
+  -- ---- record by record
+
+  -- of graphs with the same counts the first node that differs decides, whatever comes after it
+  pub node_decides : counts_cmp x y ≡ Equal → (n : ℕ) → n < (theory_of x).nodes → ((i : ℕ) → i < n → node_cmp (node_content x i) (node_content y i) ≡ Equal)
+      → {o : Ordering} → node_cmp (node_content x n) (node_content y n) ≡ o → is_ne o ≡ true → content_cmp x y ≡ o
+  node_decides c n l h {o} e d =
+      let nodes : Nodes ≡ o = rw (← (counts_equal c).1) (turns_stop node_cmp (node_content x) (node_content y) 0 n (theory_of x).nodes l (λ i k. subst (λ (j : ℕ). node_cmp (node_content x j) (node_content y j) ≡ Equal) (omega arith) (h i k)) (subst (λ (j : ℕ). node_cmp (node_content x j) (node_content y j) ≡ o) (omega arith) e) d) in
+      content_parts ∙ rw c (decides Nodes Producers (ap is_ne nodes ∙ d) ∙ nodes)
 
 -- ---- the order in the request's words
 

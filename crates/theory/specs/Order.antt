@@ -19,8 +19,11 @@ pub record ProducerContent : Type 0 where
   pub body : ℕ
   pub heads : List ℕ
 
+abbrev pub record_cmp : NodeContent → NodeContent → Ordering
+record_cmp = then_cmp (on (λ n. n.kind) nat_cmp) (on (λ n. n.operand) nat_cmp)
+
 abbrev pub node_cmp : NodeContent → NodeContent → Ordering
-node_cmp = then_cmp (then_cmp (on (λ n. n.kind) nat_cmp) (on (λ n. n.operand) nat_cmp)) (on (λ n. n.leaves) (slice_cmp nat_cmp))
+node_cmp = then_cmp record_cmp (on (λ n. n.leaves) (slice_cmp nat_cmp))
 
 abbrev pub producer_cmp : ProducerContent → ProducerContent → Ordering
 producer_cmp = then_cmp (on (λ p. p.body) nat_cmp) (on (λ p. p.heads) (slice_cmp nat_cmp))

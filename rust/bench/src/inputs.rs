@@ -60,7 +60,12 @@ pub fn input<W: Word>(size: usize, loops: bool, graphs: Option<usize>) -> Input<
 
 /// The same content with the links of each graph in any order.
 pub fn any_order<W: Word + compare::calls::Word>(input: &Input<W>) -> Input<W> {
-    let mut rng = Rng::new(input.size as u64);
+    numbered(input, input.size as u64)
+}
+
+/// The same, by a seed of one's own.
+pub fn numbered<W: Word + compare::calls::Word>(input: &Input<W>, seed: u64) -> Input<W> {
+    let mut rng = Rng::new(seed);
     let graphs = input.graphs.iter();
     Input {
         graphs: graphs

@@ -4,8 +4,9 @@
 //! The parts are `narrow` (edition 1 against the Rust), `editions` (edition 2
 //! against edition 1 on the same content), `scale` (edition 2 against the
 //! Rust, up to its largest graph), `order` (the check of both editions with
-//! links in any order against plain Rust) and `unfounded` (the pass with every atom
-//! marked against the pass); without `--part` all are run. With `--bars` it
+//! links in any order against plain Rust), `unfounded` (the pass with every atom
+//! marked against the pass) and `pairs` (two equal graphs of edition 1 compared,
+//! against one check); without `--part` all are run. With `--bars` it
 //! ends with 1 if a bar does not hold; with `--plot` it writes the picture of
 //! `narrow`, with `--plot-wide` that of `scale`; with `--graphs` there are so many
 //! graphs of each size of edition 1.
@@ -17,7 +18,7 @@ use bench::report::Bar;
 use bench::{caches, inputs, measure, plot, report};
 
 const USAGE: &str = "bench [--bars] [--plot FILE] [--plot-wide FILE] [--rounds COUNT] [--graphs COUNT] \
-                     [--part narrow|editions|scale|order|unfounded]";
+                     [--part narrow|editions|scale|order|unfounded|pairs]";
 
 struct Asked {
     bars: bool,
@@ -35,6 +36,7 @@ enum Part {
     Scale,
     Order,
     Unfounded,
+    Pairs,
 }
 
 impl Part {
@@ -44,6 +46,7 @@ impl Part {
         Self::Scale,
         Self::Order,
         Self::Unfounded,
+        Self::Pairs,
     ];
 
     fn of(word: &str) -> Option<Self> {
@@ -53,6 +56,7 @@ impl Part {
             "scale" => Some(Self::Scale),
             "order" => Some(Self::Order),
             "unfounded" => Some(Self::Unfounded),
+            "pairs" => Some(Self::Pairs),
             _ => None,
         }
     }
@@ -105,6 +109,12 @@ impl Part {
                 println!("The pass with every atom marked, against the pass\n");
                 println!("{}", report::unfounded(&measured));
                 Ok(report::unfounded_bars(&measured))
+            }
+            Self::Pairs => {
+                let each = measure::pairs(&inputs::SIZES, asked.rounds);
+                println!("Two equal graphs compared, against one check\n");
+                println!("{}", report::pairs(&each));
+                Ok(report::pair_bars(&each))
             }
         }
     }

@@ -5,6 +5,8 @@ use std::hint::black_box;
 use std::rc::Rc;
 use std::time::{Duration, Instant};
 
+use founded::raw;
+
 use crate::inputs::{self, Input, WIDE_SIZES};
 use crate::plain;
 use crate::sides::{Before, Call, Ours, Theirs};
@@ -97,6 +99,22 @@ fn plain_check<W: Word>(input: &Input<W>) -> Side<'_> {
     })
 }
 
+/// The comparison of two graphs of equal content.
+fn compared<'a>(graphs: &'a Input<u16>, others: &'a Input<u16>) -> Side<'a> {
+    Box::new(move |number| {
+        let graph = black_box(&graphs.graphs[number]);
+        let other = black_box(&others.graphs[number]);
+        let start = Instant::now();
+        // Safety: each pointer and length is that of a slice.
+        let code = black_box(unsafe {
+            raw::founded_compare(graph.as_ptr(), graph.len(), other.as_ptr(), other.len())
+        });
+        let elapsed = start.elapsed();
+        assert_eq!(code, 0, "equal content");
+        elapsed
+    })
+}
+
 struct Bench<'a> {
     /// Without times.
     measured: Measured,
@@ -118,6 +136,17 @@ impl<'a> Bench<'a> {
         others: impl IntoIterator<Item = Side<'a>>,
         clock: Duration,
     ) -> Self {
+        Self::of(input, call, ours(input, call), others, clock)
+    }
+
+    /// What is timed first on an input, held to others.
+    fn of<W: Word>(
+        input: &'a Input<W>,
+        call: Call,
+        first: Side<'a>,
+        others: impl IntoIterator<Item = Side<'a>>,
+        clock: Duration,
+    ) -> Self {
         let graphs = input.graphs.len();
         let mut bench = Self {
             measured: Measured {
@@ -128,7 +157,7 @@ impl<'a> Bench<'a> {
                 others: vec![],
                 parts: input.parts as f64 / graphs as f64,
             },
-            sides: std::iter::once(ours(input, call)).chain(others).collect(),
+            sides: std::iter::once(first).chain(others).collect(),
             graphs,
             clock,
             calls: graphs,
@@ -242,6 +271,40 @@ pub fn unfounded(graphs: Option<usize>, rounds: usize) -> Vec<Measured> {
         .map(|input| Bench::new(input, Call::Unfounded, [ours(input, Call::Pass)], clock));
     run(benches.collect(), rounds)
 }
+
+/// How the links of two equal graphs are numbered.
+pub const NUMBERINGS: [&str; 3] = ["the same words", "the second in any order", "both in any order"];
+
+/// The comparison of two graphs of equal content, held to one check of the first,
+/// by how their links are numbered.
+pub fn pairs(sizes: &[usize], rounds: usize) -> [Vec<Measured>; 3] {
+    let clock = clock();
+    let inputs: Vec<[Input<u16>; 3]> = sizes
+        .iter()
+        .map(|&size| {
+            let upward = inputs::input(size, false, None);
+            let [one, two] = [1, 2].map(|seed| inputs::numbered(&upward, seed));
+            [upward, one, two]
+        })
+        .collect();
+    let copies: Vec<Input<u16>> = sizes
+        .iter()
+        .map(|&size| inputs::input(size, false, None))
+        .collect();
+    let bench = |x, y| Bench::of(x, Call::Check, compared(x, y), [ours(x, Call::Check)], clock);
+    let all = inputs.iter().zip(&copies);
+    let benches = all.flat_map(|([upward, one, two], copy)| {
+        [bench(upward, copy), bench(upward, one), bench(one, two)]
+    });
+    let mut each = [(); 3].map(|()| Vec::new());
+    for (i, measured) in run(benches.collect(), rounds).into_iter().enumerate() {
+        each[i % 3].push(measured);
+    }
+    each
+}
+
+/// Where the comparison is held to one check.
+pub const CHECK: usize = 0;
 
 /// All calls of edition 2 on its own sizes, held to the Rust: one input after
 /// the other, since the largest take much memory, and fewer rounds of larger ones.

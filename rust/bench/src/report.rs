@@ -4,7 +4,7 @@ use std::fmt::Write as _;
 
 use crate::caches::Cache;
 use crate::inputs::WIDE_WORDS;
-use crate::measure::{EDITION_1, Measured, PASS, PLAIN, THEORY};
+use crate::measure::{CHECK, EDITION_1, Measured, NUMBERINGS, PASS, PLAIN, THEORY};
 use crate::sides::{Before, Call};
 
 fn thousands(number: usize) -> String {
@@ -50,6 +50,26 @@ pub fn unfounded(measured: &[Measured]) -> String {
         let (size, micros) = (thousands(cell.size), cell.ours / 1_000.0);
         let ratio = spread(cell.others[PASS].ratios);
         let _ = writeln!(table, "| {size} | {loops} | {micros:.2} | {ratio} |");
+    }
+    table
+}
+
+/// The comparison of equal graphs, by how their links are numbered: a row for each size.
+pub fn pairs(each: &[Vec<Measured>; 3]) -> String {
+    let mut table = String::from("| A = N = P |");
+    for numbering in NUMBERINGS {
+        let _ = write!(table, " {numbering}, µs | checks |");
+    }
+    let columns = table.matches('|').count() - 1;
+    table += &format!("\n|{}\n", "---|".repeat(columns));
+    for (row, cell) in each[0].iter().enumerate() {
+        let _ = write!(table, "| {} |", thousands(cell.size));
+        for measured in each {
+            let cell = &measured[row];
+            let (micros, ratio) = (cell.ours / 1_000.0, spread(cell.others[CHECK].ratios));
+            let _ = write!(table, " {micros:.2} | {ratio} |");
+        }
+        table.push('\n');
     }
     table
 }
@@ -190,6 +210,21 @@ pub fn any_order_bars(editions: &[(usize, Vec<Measured>)]) -> Vec<Bar> {
             ),
             figure: cell.others[PLAIN].ratios[1],
             most: 1.5,
+        }));
+    }
+    bars
+}
+
+/// The comparison of two equal graphs of the largest size takes at most 2.5 times the
+/// time of one check.
+pub fn pair_bars(each: &[Vec<Measured>; 3]) -> Vec<Bar> {
+    let mut bars = Vec::new();
+    for (numbering, measured) in NUMBERINGS.into_iter().zip(each) {
+        let large = measured.iter().filter(|cell| cell.size >= 1_024);
+        bars.extend(large.map(|cell| Bar {
+            what: format!("equal graphs at {}, {numbering}: checks", thousands(cell.size)),
+            figure: cell.others[CHECK].ratios[1],
+            most: 2.5,
         }));
     }
     bars

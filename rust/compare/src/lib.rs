@@ -7,6 +7,7 @@
 //! - [`ours`]: the proved calls, with the memory lent to them watched;
 //! - [`runs`]: whole families of graphs compared;
 //! - [`recut`]: what request 7 promises, over runs of the proved calls;
+//! - [`pairs`]: two graphs, by the order of request 14;
 //! - [`programs`]: a program held to the papers' text;
 //! - [`record`]: the recorded list.
 
@@ -17,6 +18,7 @@ pub mod content;
 pub mod damage;
 pub mod edges;
 pub mod ours;
+pub mod pairs;
 pub mod programs;
 pub mod random;
 pub mod record;

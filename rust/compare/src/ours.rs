@@ -47,17 +47,17 @@ impl Made {
 }
 
 /// Words on each side of a lent slice; odd, so that no slice is aligned by luck.
-const GUARD: usize = 17;
+pub(crate) const GUARD: usize = 17;
 
 /// A slice in the middle of a buffer, and what the buffer must hold.
-struct Lent<T> {
+pub(crate) struct Lent<T> {
     buffer: Vec<T>,
     image: Vec<T>,
     guard: [T; GUARD],
 }
 
 impl<T: Copy + PartialEq> Lent<T> {
-    fn new(guard: [T; GUARD]) -> Self {
+    pub(crate) fn new(guard: [T; GUARD]) -> Self {
         let mut lent = Self {
             buffer: vec![],
             image: vec![],
@@ -67,7 +67,7 @@ impl<T: Copy + PartialEq> Lent<T> {
         lent
     }
 
-    fn lend(&mut self, words: impl Iterator<Item = T>) {
+    pub(crate) fn lend(&mut self, words: impl Iterator<Item = T>) {
         self.image.clear();
         self.image.extend_from_slice(&self.guard);
         self.image.extend(words);
@@ -83,7 +83,7 @@ impl<T: Copy + PartialEq> Lent<T> {
         self.slice().len()
     }
 
-    fn start(&mut self) -> *mut T {
+    pub(crate) fn start(&mut self) -> *mut T {
         self.buffer[GUARD..].as_mut_ptr()
     }
 
@@ -93,7 +93,7 @@ impl<T: Copy + PartialEq> Lent<T> {
         self.image[slice].copy_from_slice(words);
     }
 
-    fn holds(&self) -> bool {
+    pub(crate) fn holds(&self) -> bool {
         self.buffer == self.image
     }
 }

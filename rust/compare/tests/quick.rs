@@ -3,7 +3,7 @@
 use compare::calls::Word;
 use compare::cases::{self, Expected};
 use compare::random::WIDE_SCALES;
-use compare::{edges, runs};
+use compare::{edges, pairs, runs};
 use oracle::{Ended, Oracle};
 
 #[test]
@@ -116,4 +116,22 @@ fn wide_random_graphs() {
 #[test]
 fn wide_damaged_copies() {
     runs::wide_damaged(1, 0, 10_000).expect("no difference");
+}
+
+#[test]
+fn pairs_of_tiny_contents() {
+    let tally = pairs::contents(&pairs::CONTENTS, pairs::ARCHIVE).expect("no difference");
+    assert!(tally.less > 0 && tally.equal > 0 && tally.greater > 0, "{tally:?}");
+}
+
+#[test]
+fn pairs_with_tiny_patterns() {
+    let tally = pairs::patterns([1, 1, 1, 2], pairs::ARCHIVE).expect("no difference");
+    assert!(tally.first_refused > 0 && tally.second_refused > 0, "{tally:?}");
+}
+
+#[test]
+fn pairs_of_random_graphs() {
+    let tally = pairs::graphs(1, 0, 2_000, pairs::ARCHIVE).expect("no difference");
+    assert!(tally.renumbered > 0 && tally.second_refused > 0, "{tally:?}");
 }

@@ -1,5 +1,7 @@
 //! The calls over plain slices, once for both widths. Rust's borrow rules keep the buffers apart, as the calls need.
 
+use std::cmp::Ordering;
+
 use crate::{Refusal, Word, chains, raw};
 
 /// The length of the work area in edition 1, in 16-bit words. In edition 2 it depends on the graph: [`wide::work_words`].
@@ -111,6 +113,22 @@ pub fn unfounded(
     })
 }
 
+pub fn compare(graph: &[u16], other: &[u16]) -> Result<Ordering, Refusal> {
+    // SAFETY: as in `check`, for both slices.
+    let code =
+        unsafe { raw::founded_compare(graph.as_ptr(), graph.len(), other.as_ptr(), other.len()) };
+    match code {
+        0 => Ok(Ordering::Equal),
+        1 => Ok(Ordering::Less),
+        2 => Ok(Ordering::Greater),
+        // The code does not say whose refusal it is, and 14's chain is one of that graph.
+        code => Err(refusal(
+            if check(graph).is_err() { graph } else { other },
+            code.into(),
+        )),
+    }
+}
+
 /// The four calls by name, for words of one type.
 macro_rules! named {
     ($word:ty) => {
@@ -164,6 +182,8 @@ macro_rules! named {
 
 /// On graphs of edition 1. The crate has these names at its top.
 pub mod narrow {
+    use std::cmp::Ordering;
+
     named!(u16);
 
     /// The pass with every atom marked (document 02, request 6): the output lists the uncut atoms that are left unfounded, those that nothing produces and those that only hold each other
@@ -180,6 +200,18 @@ pub mod narrow {
         work: &mut [u16],
     ) -> Result<(), Refusal> {
         calls::unfounded(graph, never, atom_never, output, work)
+    }
+
+    /// One order for graphs, by content: by how many atoms, nodes and producers there are, then node by node by kind, operand and leaf list, then producer by producer by body + 1
+    /// and head list. Lists go by first difference, a shorter beginning first. Kinds go by number: Implies, Threshold and `ExtremumCut` are three. The links' numbering and links
+    /// in no chain play no part.
+    ///
+    /// It is a total order, and Equal exactly if the content is the same; then all other calls give both graphs the same answers and lists under the same masks.
+    ///
+    /// # Errors
+    /// The first of 1 to 9 and 14 that applies to `graph`, or where that is accepted to `other`. It does not say which of the two is refused.
+    pub fn compare(graph: &[u16], other: &[u16]) -> Result<Ordering, Refusal> {
+        calls::compare(graph, other)
     }
 }
 

@@ -1,7 +1,17 @@
+use std::cmp::Ordering;
+
 use crate::{AtomId, Node, NodeId, Producer, ProducerId, Refusal, Word, calls, chains};
 
 /// The words of a graph that the proved check has accepted: [`Graph`] or [`WideGraph`].
-#[derive(Clone, Debug, PartialEq, Eq)]
+///
+/// Graphs of edition 1 are compared by content, as [`compare`](crate::compare) says. No call compares two of edition 2, and so they have neither `==` nor an order:
+///
+/// ```compile_fail
+/// fn same(graph: &founded::WideGraph, other: &founded::WideGraph) -> bool {
+///     graph == other
+/// }
+/// ```
+#[derive(Clone, Debug)]
 pub struct GraphOf<W> {
     words: Vec<W>,
     work_words: usize,
@@ -51,6 +61,12 @@ impl<W: Word> GraphOf<W> {
     #[must_use]
     pub fn work_words(&self) -> usize {
         self.work_words
+    }
+
+    /// Whether both have the same words, the links' numbering included.
+    #[must_use]
+    pub fn same_words(&self, other: &Self) -> bool {
+        self.words == other.words
     }
 
     fn word(&self, at: usize) -> u32 {
@@ -137,3 +153,25 @@ impl From<&Graph> for WideGraph {
         graph.widen()
     }
 }
+
+/// By content, as [`compare`](crate::compare) says.
+impl Ord for Graph {
+    fn cmp(&self, other: &Self) -> Ordering {
+        calls::compare(&self.words, &other.words).expect("both graphs have passed the check")
+    }
+}
+
+impl PartialOrd for Graph {
+    fn partial_cmp(&self, other: &Self) -> Option<Ordering> {
+        Some(self.cmp(other))
+    }
+}
+
+/// The same content, whatever the links' numbering.
+impl PartialEq for Graph {
+    fn eq(&self, other: &Self) -> bool {
+        self.cmp(other).is_eq()
+    }
+}
+
+impl Eq for Graph {}

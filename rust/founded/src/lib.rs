@@ -46,6 +46,7 @@
 //! | most links, leaf entries, head entries | 4,096 each | 1,048,576 each |
 //! | work area | 32,768 words | as the graph's size asks: [`wide::work_words`] |
 //! | calls over plain slices | [`check`], [`needed`], [`prepare`], [`complete`], [`unfounded`] | the first four in [`wide`] |
+//! | compared by content | `==`, `<`, sorted maps: [`compare`] | no |
 //!
 //! Ids, masks, lists and refusals are the same in both. A theory that is too large for edition 1 is told so by `build`:
 //!
@@ -68,11 +69,33 @@
 //! # Ok::<(), Error>(())
 //! ```
 //!
+//! # Filed by content
+//!
+//! Graphs of edition 1 are ordered by content, as [`compare`] says: two graphs that say the same are equal, however their links are numbered. So a sorted map files them.
+//! [`GraphOf::same_words`] says whether the words are the same too.
+//!
+//! ```
+//! use std::collections::BTreeMap;
+//!
+//! use founded::Graph;
+//!
+//! // A fact with two heads, its links in two orders.
+//! let up = Graph::from_words(vec![1, 2, 0, 1, 2, 0, 1, 0, 2, 1, 0])?;
+//! let down = Graph::from_words(vec![1, 2, 0, 1, 2, 0, 2, 1, 0, 0, 1])?;
+//! assert!(up == down && !up.same_words(&down));
+//!
+//! let mut archive = BTreeMap::new();
+//! archive.insert(up, "first");
+//! assert_eq!(archive.insert(down, "again"), Some("first"));
+//! # Ok::<(), founded::Refusal>(())
+//! ```
+//!
 //! # What there is
 //!
 //! - [`Theory`] builds a graph, [`Graph`] or [`WideGraph`] holds the words of one that the proved check has accepted. [`GraphOf::from_words`] takes words from outside. [`Graph::widen`] goes from edition 1 to edition 2.
 //! - [`Solver`] owns the work area and the output and runs the loop test, the preparation and the pass, and on a [`Graph`] the pass with every atom marked ([`Solver::unfounded`]).
 //! - [`check`], [`needed`], [`prepare`] and [`complete`], here and in [`wide`], are the four calls over plain slices, for callers that keep their own memory.
+//! - [`compare`] is one order for graphs of edition 1, by content, whatever the links' numbering. [`Graph`] is `Ord` by it.
 //! - [`raw`] has them as the archive does.
 //! - A call is turned away by a [`Refusal`], with the number and place of docs/FORMAT.md's table.
 
@@ -87,7 +110,7 @@ mod solver;
 mod theory;
 mod word;
 
-pub use calls::narrow::{check, complete, needed, prepare, unfounded};
+pub use calls::narrow::{check, compare, complete, needed, prepare, unfounded};
 pub use calls::{WORK_WORDS, mask_words, wide};
 pub use error::Error;
 pub use graph::{Graph, GraphOf, WideGraph};

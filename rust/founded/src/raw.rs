@@ -47,6 +47,13 @@ unsafe extern "C" {
         work_len: usize,
     ) -> u32;
 
+    pub fn founded_compare(
+        graph: *const u16,
+        graph_len: usize,
+        other: *const u16,
+        other_len: usize,
+    ) -> u32;
+
     pub fn founded_wide_check(graph: *const u32, graph_len: usize) -> u64;
 
     pub fn founded_wide_work_words(graph: *const u32, graph_len: usize) -> u64;

@@ -79,6 +79,15 @@ missing 0 with 0 words
     assert_eq!(printed("wide"), said);
 }
 
+#[test]
+fn order() {
+    let said = "none < heads 0 1 = heads 0 1 < one
+0 -1 1
+comes back: 14 0
+";
+    assert_eq!(printed("compare"), said);
+}
+
 /// Whether a C or C++ function that gives this value compiles.
 fn compiles(compiler_name: &str, file: &str, value: &str) -> bool {
     let path = made(file);
@@ -112,6 +121,8 @@ fn macros(compiler: &str, file: &str) {
 #[test]
 fn a_code_of_the_other_width_does_not_compile() {
     macros("cc", "macros.c");
+    let compiles = |code| compiles("cc", "macros.c", &format!("(uint32_t)FOUNDED_ORDER({code})"));
+    assert!(compiles("founded_compare(0, 0, 0, 0)") && !compiles("wide"));
 }
 
 #[test]

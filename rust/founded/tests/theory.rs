@@ -21,7 +21,7 @@ fn read_back<W: Width>((_, nodes, producers): &Made, graph: &GraphOf<W>) -> bool
     assert_eq!(graph.node(NodeId(u32::MAX)), None);
     assert_eq!(graph.producer(ProducerId(u32::MAX)), None);
     let again = GraphOf::from_words(graph.words().to_vec());
-    assert_eq!(again.as_ref(), Ok(graph));
+    assert!(again.unwrap().same_words(graph));
     Solver::new().needed(graph)
 }
 
@@ -131,7 +131,7 @@ fn entries<W: Width>(build: impl Fn(&Theory) -> Result<GraphOf<W>, Error>) {
         assert_eq!(graph.words()[4].into(), most as u32);
         assert_eq!(graph.work_words(), W::formula(2 + 2 + 1, most));
     }
-    assert_eq!(build(&listed(most, 1).unwrap()), many("links", most));
+    assert_eq!(build(&listed(most, 1).unwrap()).err(), many::<()>("links", most).err());
 }
 
 #[test]
@@ -165,10 +165,10 @@ fn shared<W: Width>(build: impl Fn(&Theory) -> Result<GraphOf<W>, Error>) {
     let mut more = theory.clone();
     let added = more.add_node(Node::Or(vec![leaf]));
     let answer = added.and_then(|_| build(&more));
-    assert_eq!(answer, many("leaf entries", W::ENTRIES));
+    assert_eq!(answer.err(), many::<()>("leaf entries", W::ENTRIES).err());
     let added = theory.add_fact(&[atom]);
     let answer = added.and_then(|_| build(&theory));
-    assert_eq!(answer, many("head entries", W::ENTRIES));
+    assert_eq!(answer.err(), many::<()>("head entries", W::ENTRIES).err());
 }
 
 #[test]

@@ -1,4 +1,4 @@
-//! Document 01, and requests 5, 6 and 9 of document 02, in slow, plain Rust, written
+//! Document 01, and requests 5, 6, 9 and 14 of document 02, in slow, plain Rust, written
 //! from their text alone.
 //!
 //! - [`Edition`], [`Word`]: what an edition has of its own; 16-bit words are of
@@ -7,6 +7,7 @@
 //! - [`needed`], [`prepare`], [`complete`], [`unfounded`]: the calls, with rows 10
 //!   to 12;
 //! - [`work_words`]: the length that row 11 asks for;
+//! - [`compare`]: one order for graphs, by content;
 //! - [`program`]: standard input's bytes to the program's text;
 //! - [`Graph`], [`Prepared`]: the meaning, from which the calls are made;
 //! - [`large`]: closed chains and support in graphs too large for the slow ways;
@@ -19,6 +20,7 @@ mod graph;
 pub mod groups;
 pub mod large;
 mod meaning;
+mod order;
 pub mod program;
 mod table;
 mod truth;
@@ -27,6 +29,7 @@ pub use calls::{complete, needed, prepare, unfounded, work_words};
 pub use edition::{EDITION_1, EDITION_2, Edition, WORK_WORDS, Word};
 pub use graph::{Graph, Kind, Node, Rule};
 pub use meaning::{Prepared, Rows, marked_by_components};
+pub use order::compare;
 pub use table::{Refusal, check};
 
 /// Words of 64 bits for that many numbers.

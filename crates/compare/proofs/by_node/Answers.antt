@@ -5,9 +5,9 @@ use Rattle.compare.proofs.by_node.Goals as goal
 pub returns-then-is_ne : goal.returns-then-is_ne
 returns-then-is_ne g c =
     let x = g.W.Word.numbers c.args.x.now in let y = g.W.Word.numbers c.args.y.now in
-    node_differs x y c.args.n (rw (← c.kind.ensures, ← c.kind-2.ensures, ← c.operand.ensures, ← c.operand-2.ensures, ← c.cmp.ensures, ← c.cmp-2.ensures) c.then-found.ensures) (sym c.if-is_ne.ensures)
+    node_differs x y c.args.n c.by_record-found.ensures (sym c.if-is_ne.ensures)
 
 pub returns : goal.returns
 returns g c =
     let x = g.W.Word.numbers c.args.x.now in let y = g.W.Word.numbers c.args.y.now in
-    leaves_left x y c.args.n (rw (← c.kind.ensures, ← c.kind-2.ensures, ← c.operand.ensures, ← c.operand-2.ensures, ← c.cmp.ensures, ← c.cmp-2.ensures) c.then-found.ensures) (sym c.if-is_ne.ensures) (rw (← c.first_leaf.ensures, ← c.first_leaf-2.ensures) c.by_list.ensures)
+    leaves_left x y c.args.n c.by_record-found.ensures (sym c.if-is_ne.ensures) (rw (← c.first_leaf.ensures, ← c.first_leaf-2.ensures) c.by_list.ensures)

@@ -6,8 +6,9 @@
 //! in edition 1 and laid out in edition 2;
 //! then the limits of edition 2, as many copies damaged in its own words, and
 //! random graphs above edition 1's limits, one of the largest for each 100,000 of
-//! COUNT; and request 7's relations on a quarter as many. It prints what it
-//! compared, and ends with 1 at the first difference.
+//! COUNT; request 7's relations on a quarter as many; and as many pairs of graphs
+//! by the order of request 14. It prints what it compared, and ends with 1 at the
+//! first difference.
 
 use std::collections::BTreeMap;
 use std::process::ExitCode;
@@ -16,6 +17,7 @@ use std::time::Instant;
 use compare::agree::{Difference, Tally};
 use compare::calls::Word;
 use compare::random::WIDE_SCALES;
+use compare::pairs;
 use compare::runs::{self, Compared};
 
 /// Random graphs between two lines of the log.
@@ -110,6 +112,15 @@ fn all(seed: u64, count: u64) -> Result<Families, Box<Difference>> {
     for (from, to) in spans(count / 4) {
         let held = runs::recut(u16::ARCHIVE, seed, from, to)?;
         println!("[{:.0?}] recut {from}..{to}: {held:?}", start.elapsed());
+    }
+    let mut tally = pairs::contents(&pairs::LONG_CONTENTS, pairs::ARCHIVE)?;
+    for counts in [[1, 1, 1, 2], [0, 2, 0, 2], [1, 0, 2, 2]] {
+        tally.add(&pairs::patterns(counts, pairs::ARCHIVE)?);
+    }
+    println!("[{:.0?}] pairs of tiny graphs: {tally:?}", start.elapsed());
+    for (from, to) in spans(count / 4) {
+        tally.add(&pairs::graphs(seed, from, to, pairs::ARCHIVE)?);
+        println!("[{:.0?}] pairs up to {to}: {tally:?}", start.elapsed());
     }
     Ok(families)
 }
