@@ -273,7 +273,11 @@ pub fn unfounded(graphs: Option<usize>, rounds: usize) -> Vec<Measured> {
 }
 
 /// How the links of two equal graphs are numbered.
-pub const NUMBERINGS: [&str; 3] = ["the same words", "the second in any order", "both in any order"];
+pub const NUMBERINGS: [&str; 3] = [
+    "the same words",
+    "the second in any order",
+    "both in any order",
+];
 
 /// The comparison of two graphs of equal content, held to one check of the first,
 /// by how their links are numbered.
@@ -291,7 +295,15 @@ pub fn pairs(sizes: &[usize], rounds: usize) -> [Vec<Measured>; 3] {
         .iter()
         .map(|&size| inputs::input(size, false, None))
         .collect();
-    let bench = |x, y| Bench::of(x, Call::Check, compared(x, y), [ours(x, Call::Check)], clock);
+    let bench = |x, y| {
+        Bench::of(
+            x,
+            Call::Check,
+            compared(x, y),
+            [ours(x, Call::Check)],
+            clock,
+        )
+    };
     let all = inputs.iter().zip(&copies);
     let benches = all.flat_map(|([upward, one, two], copy)| {
         [bench(upward, copy), bench(upward, one), bench(one, two)]

@@ -222,7 +222,10 @@ pub fn pair_bars(each: &[Vec<Measured>; 3]) -> Vec<Bar> {
     for (numbering, measured) in NUMBERINGS.into_iter().zip(each) {
         let large = measured.iter().filter(|cell| cell.size >= 1_024);
         bars.extend(large.map(|cell| Bar {
-            what: format!("equal graphs at {}, {numbering}: checks", thousands(cell.size)),
+            what: format!(
+                "equal graphs at {}, {numbering}: checks",
+                thousands(cell.size)
+            ),
             figure: cell.others[CHECK].ratios[1],
             most: 2.5,
         }));

@@ -2,7 +2,7 @@
 
 use bench::caches::Cache;
 use bench::inputs::{SIZES, WIDE_SIZES};
-use bench::measure::{EDITION_1, Measured, Other, PLAIN, THEORY};
+use bench::measure::{CHECK, EDITION_1, Measured, Other, PLAIN, THEORY};
 use bench::report::Bar;
 use bench::sides::Call;
 use bench::{plot, report};
@@ -131,6 +131,28 @@ fn the_check_with_links_in_any_order() {
     assert_eq!(
         broken(bars(&editions)),
         ["check of edition 1 at 1,024, links in any order: ratio"]
+    );
+}
+
+#[test]
+fn equal_graphs_are_held_to_one_check() {
+    let checks = || {
+        let mut checks = edition_figures();
+        checks.retain(|cell| cell.call == Call::Check && !cell.loops);
+        checks
+    };
+    let mut each = [checks(), checks(), checks()];
+    let table = report::pairs(&each);
+    let columns = |row: &str| row.matches('|').count();
+    assert!(table.lines().all(|row| columns(row) == 2 + 2 * 3));
+    assert_eq!(table.lines().count(), 2 + 4);
+    let bars = report::pair_bars;
+    assert_eq!((bars(&each).len(), broken(bars(&each)).len()), (3, 0));
+    pick(&mut each[0], 256, false, Call::Check).others[CHECK].ratios[1] = 9.0;
+    pick(&mut each[2], 1_024, false, Call::Check).others[CHECK].ratios[1] = 2.51;
+    assert_eq!(
+        broken(bars(&each)),
+        ["equal graphs at 1,024, both in any order: checks"]
     );
 }
 

@@ -66,7 +66,12 @@ impl Pairs {
     /// # Errors
     /// The first answer that is not the papers', or memory that was written.
     pub fn all(&mut self, words: &[u16], other: &[u16]) -> Result<(), Difference> {
-        for (x, y) in [(words, other), (other, words), (words, words), (other, other)] {
+        for (x, y) in [
+            (words, other),
+            (other, words),
+            (words, words),
+            (other, other),
+        ] {
             self.one(x, y)?;
         }
         Ok(())
@@ -85,7 +90,12 @@ impl Pairs {
         self.other.lend(other.iter().copied());
         // Safety: each slice lies within a buffer of its own.
         let found = unsafe {
-            (self.compare)(self.graph.start(), words.len(), self.other.start(), other.len())
+            (self.compare)(
+                self.graph.start(),
+                words.len(),
+                self.other.start(),
+                other.len(),
+            )
         };
         let found = u16::parts(found);
         let what = if found != due {

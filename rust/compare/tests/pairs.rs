@@ -120,12 +120,18 @@ fn each_fault_is_seen() {
         let tiny = pairs::contents(&CONTENTS, compare).err();
         let patterns = || pairs::patterns([1, 1, 1, 1], compare).err();
         let random = || pairs::graphs(1, 0, 500, compare).err();
-        tiny.or_else(patterns).or_else(random).map(|found| found.what)
+        tiny.or_else(patterns)
+            .or_else(random)
+            .map(|found| found.what)
     };
     assert_eq!(seen(ARCHIVE), None);
     let faults: [(&str, Compare, &str); 10] = [
         ("turned", turned, "our compare: "),
-        ("second refused first", second_refused_first, "our compare: "),
+        (
+            "second refused first",
+            second_refused_first,
+            "our compare: ",
+        ),
         ("same words", same_words, "our compare: (0, 1)"),
         ("links counted", links_counted, "our compare: "),
         ("opaque alike", opaque_alike, "our compare: (0, 0)"),
@@ -133,7 +139,11 @@ fn each_fault_is_seen() {
         ("longer first", longer_first, "our compare: "),
         ("shared tail", shared_tail, "our compare: (0, 0)"),
         ("first written", first_written, "wrote to the first graph"),
-        ("past the second", past_the_second, "wrote to the second graph"),
+        (
+            "past the second",
+            past_the_second,
+            "wrote to the second graph",
+        ),
     ];
     for (name, compare, what) in faults {
         let said = seen(compare).expect(name);

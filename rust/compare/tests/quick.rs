@@ -121,17 +121,26 @@ fn wide_damaged_copies() {
 #[test]
 fn pairs_of_tiny_contents() {
     let tally = pairs::contents(&pairs::CONTENTS, pairs::ARCHIVE).expect("no difference");
-    assert!(tally.less > 0 && tally.equal > 0 && tally.greater > 0, "{tally:?}");
+    assert!(
+        tally.less > 0 && tally.equal > 0 && tally.greater > 0,
+        "{tally:?}"
+    );
 }
 
 #[test]
 fn pairs_with_tiny_patterns() {
     let tally = pairs::patterns([1, 1, 1, 2], pairs::ARCHIVE).expect("no difference");
-    assert!(tally.first_refused > 0 && tally.second_refused > 0, "{tally:?}");
+    assert!(
+        tally.first_refused > 0 && tally.second_refused > 0,
+        "{tally:?}"
+    );
 }
 
 #[test]
 fn pairs_of_random_graphs() {
     let tally = pairs::graphs(1, 0, 2_000, pairs::ARCHIVE).expect("no difference");
-    assert!(tally.renumbered > 0 && tally.second_refused > 0, "{tally:?}");
+    assert!(
+        tally.renumbered > 0 && tally.second_refused > 0,
+        "{tally:?}"
+    );
 }

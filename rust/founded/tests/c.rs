@@ -121,7 +121,13 @@ fn macros(compiler: &str, file: &str) {
 #[test]
 fn a_code_of_the_other_width_does_not_compile() {
     macros("cc", "macros.c");
-    let compiles = |code| compiles("cc", "macros.c", &format!("(uint32_t)FOUNDED_ORDER({code})"));
+    let compiles = |code| {
+        compiles(
+            "cc",
+            "macros.c",
+            &format!("(uint32_t)FOUNDED_ORDER({code})"),
+        )
+    };
     assert!(compiles("founded_compare(0, 0, 0, 0)") && !compiles("wide"));
 }
 

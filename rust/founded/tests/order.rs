@@ -88,7 +88,8 @@ fn refusals() {
     assert_eq!(compare(&[], &comes_back), Err(Refusal::Edition));
     assert_eq!(compare(&good[..4], &[2; 5]), Err(Refusal::Edition));
     assert_eq!(compare(&good, &[1, 0, 0, 0, 1]), Err(Refusal::Size));
-    let [head, leaf] = [Chain::Producer(ProducerId(0)), Chain::Node(NodeId(1))].map(Refusal::ComesBack);
+    let [head, leaf] =
+        [Chain::Producer(ProducerId(0)), Chain::Node(NodeId(1))].map(Refusal::ComesBack);
     assert_eq!(compare(&good, &comes_back), Err(head));
     assert_eq!(compare(&comes_back, &node_too), Err(head));
     assert_eq!(compare(&node_too, &comes_back), Err(leaf));

@@ -131,7 +131,10 @@ fn entries<W: Width>(build: impl Fn(&Theory) -> Result<GraphOf<W>, Error>) {
         assert_eq!(graph.words()[4].into(), most as u32);
         assert_eq!(graph.work_words(), W::formula(2 + 2 + 1, most));
     }
-    assert_eq!(build(&listed(most, 1).unwrap()).err(), many::<()>("links", most).err());
+    assert_eq!(
+        build(&listed(most, 1).unwrap()).err(),
+        many::<()>("links", most).err()
+    );
 }
 
 #[test]

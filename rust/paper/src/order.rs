@@ -33,7 +33,10 @@ fn by_content<W: Word>(words: &[W], other: &[W]) -> Ordering {
         if operand != other_operand {
             return numbers(operand, other_operand);
         }
-        let found = lists(&x.leaves(c).collect::<Vec<_>>(), &y.leaves(c).collect::<Vec<_>>());
+        let found = lists(
+            &x.leaves(c).collect::<Vec<_>>(),
+            &y.leaves(c).collect::<Vec<_>>(),
+        );
         if found != Ordering::Equal {
             return found;
         }
@@ -43,7 +46,10 @@ fn by_content<W: Word>(words: &[W], other: &[W]) -> Ordering {
         if body != other_body {
             return numbers(body, other_body);
         }
-        let found = lists(&x.heads(r).collect::<Vec<_>>(), &y.heads(r).collect::<Vec<_>>());
+        let found = lists(
+            &x.heads(r).collect::<Vec<_>>(),
+            &y.heads(r).collect::<Vec<_>>(),
+        );
         if found != Ordering::Equal {
             return found;
         }

@@ -16,8 +16,8 @@ use std::time::Instant;
 
 use compare::agree::{Difference, Tally};
 use compare::calls::Word;
-use compare::random::WIDE_SCALES;
 use compare::pairs;
+use compare::random::WIDE_SCALES;
 use compare::runs::{self, Compared};
 
 /// Random graphs between two lines of the log.
