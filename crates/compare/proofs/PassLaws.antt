@@ -17,7 +17,7 @@ use Rattle.theory.specs.Words.{kind_of, chain, theory_of}
 use Rattle.theory.specs.Links.{MeetsOnce}
 use Rattle.theory.specs.Content.{SameContent}
 use Rattle.theory.specs.Accepted.{Edition, leaf_entries, head_entries}
-use Rattle.theory.proofs.SetLaws.{bool_cases, clash}
+use Rattle.theory.proofs.SetLaws.{bool_cases}
 use Rattle.theory.proofs.CountLaws.{sum_same}
 use Rattle.theory.proofs.ChainLaws.{ends_clear, once_ends, once_link, chain_end, chain_step}
 use Rattle.graph.specs.Layout.{leaf_link, head_link}
@@ -26,7 +26,7 @@ use Rattle.refusals.specs.Search.{Clear}
 use Rattle.refusals.specs.Answer.{accept, refuse_first, first_refusal}
 use Rattle.refusals.specs.Refusals.{bad_entries, bad_operand, bad_first, bad_record, bad_body, bad_node, bad_producer, bad_link, leaves_back, heads_back, bad_leaves, bad_heads, graph_rows, graph_answer}
 use Rattle.refusals.proofs.SearchLaws.{first_none, row_passes, row_clear, if_clear}
-use Rattle.refusals.proofs.RowLaws.{rows_accept, sized, record_fine, next_fine}
+use Rattle.refusals.proofs.RowLaws.{or_false, rows_accept, sized, record_fine, next_fine}
 use Rattle.refusals.proofs.AcceptedLaws.{accepted}
 use Rattle.theory.specs.Order.{content_cmp}
 use Rattle.compare.specs.Beside.{Walkable, Beside, SideBySide}
@@ -39,10 +39,6 @@ unfolding graph_answer graph_rows
 accepted_walkable ed ws ok =
     let row = rows_accept (graph_rows ed ws) ok in
     record { edition = if_clear 0 _ (row 0); counts = if_clear 1 _ (row 1); size = if_clear 2 _ (row 2); links = row_clear (bad_link ws) 5 1 (get_or ws 4 0) (row 5) (omega arith) }
-
-neither : (a b : Bool) → a || b ≡ false → (a ≡ false) × (b ≡ false)
-neither true b e = clash refl e
-neither false b e = (refl, e)
 
 -- a chain without entries begins at link 0
 chain_none : (ws : List ℕ) {l : ℕ} → MeetsOnce ws l → chain ws l ≡ [] → l ≡ 0
@@ -64,13 +60,13 @@ first_passes k f links low n = rw (le-ltb links f low) (go (bool_cases (joins (k
 record_passes : (k o f a links k' o' f' a' links' : ℕ) → k ≡ k' → o ≡ o' → a ≡ a' → bad_record k o f a links ≡ false → bad_first k f' links' ≡ false → bad_record k' o' f' a' links' ≡ false
 unfolding bad_record
 record_passes k o f a links k' o' f' a' links' ek eo ea e g =
-    let p = neither (ltb 7 k) _ e in
-    let q = neither (bad_operand k o a) _ p.1 in
+    let p = or_false (ltb 7 k) _ e in
+    let q = or_false (bad_operand k o a) _ p.1 in
     rw (← ek, ← eo, ← ea, p.0, q.0, g) refl
 
 body_passes : (b f n links b' f' n' links' : ℕ) → b ≡ b' → n ≡ n' → bad_body b f n links ≡ false → f' ≤ links' → bad_body b' f' n' links' ≡ false
 unfolding bad_body
-body_passes b f n links b' f' n' links' eb en e low = rw (← eb, ← en, (neither (ltb n b) _ e).0, le-ltb links' f' low) refl
+body_passes b f n links b' f' n' links' eb en e low = rw (← eb, ← en, (or_false (ltb n b) _ e).0, le-ltb links' f' low) refl
 
 -- a row whose test holds nowhere
 row : (number : ℕ) (bad : ℕ → Bool) (count : ℕ) → ((i : ℕ) → i < count → bad i ≡ false) → refuse_first number bad 0 count ≡ accept

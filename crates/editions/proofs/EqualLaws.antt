@@ -1,5 +1,5 @@
 -- Two graphs that `compare` finds equal, from its contract and those of the other calls alone: both are accepted and have the same content, so the rules give them the same
--- lists under all cuts (`equal_outcome`). In equal work areas the loop test answers the same (`equal_needed`), and preparation and pass give the same number and leave the same output
+-- lists under all cuts (`equal_outcome`). Lent the same memory the loop test answers the same (`equal_needed`), and preparation and pass give the same answer and leave the same output
 -- (`equal_prepared`, `equal_completed`), whatever the masks cut.
 use mathlib.Core.Path.{◌≡◌, refl, sym, ap, ◌∙◌}
 use mathlib.Core.Logic.{◌⊎◌, inl, inr}
@@ -85,9 +85,9 @@ module _ (x y : List ℕ) (r : Result Ordering Refusal) (promise : comparison_of
   pub equal_needed : (work : List ℕ) → outcome edition1 x work ≡ outcome edition1 y work
   equal_needed work = needed_equal edition1 edition1 x y said.first said.second equal_content work work refl
 
-  pub equal_prepared : (work output o₁ w₁ o₂ w₂ : List ℕ) (p q : Result (Unit {0}) CallError) → Prepares edition1 x output work o₁ w₁ p → Prepares edition1 y output work o₂ w₂ q → ((call_of p).number ≡ (call_of q).number) × (o₁ ≡ o₂)
+  pub equal_prepared : (work output o₁ w₁ o₂ w₂ : List ℕ) (p q : Result (Unit {0}) CallError) → Prepares edition1 x output work o₁ w₁ p → Prepares edition1 y output work o₂ w₂ q → (call_of p ≡ call_of q) × (o₁ ≡ o₂)
   equal_prepared work output o₁ w₁ o₂ w₂ = prepared_equal edition1 edition1 x y said.first said.second equal_content work work refl output o₁ w₁ o₂ w₂
 
   pub equal_completed : (work never atom_never output o₁ w₁ o₂ w₂ : List ℕ) (p q : Result (Unit {0}) CallError) → Completes edition1 x never atom_never output work o₁ w₁ p → Completes edition1 y never atom_never output work o₂ w₂ q
-      → ((call_of p).number ≡ (call_of q).number) × (o₁ ≡ o₂)
+      → (call_of p ≡ call_of q) × (o₁ ≡ o₂)
   equal_completed work never atom_never output o₁ w₁ o₂ w₂ = completed_equal edition1 edition1 x y said.first said.second equal_content work work refl never atom_never output o₁ w₁ o₂ w₂

@@ -22,7 +22,7 @@ use Rattle.refusals.specs.Search.{Clear}
 use Rattle.refusals.specs.Answer.{Answer, accept, or_next, first_refusal}
 use Rattle.refusals.specs.Refusals.{bad_edition, bad_counts, bad_size, bad_entries, bad_operand, bad_first, bad_record, bad_body, bad_next, bad_node, bad_producer, bad_link, leaves_back, heads_back}
 
-or_false : (a b : Bool) → a || b ≡ false → (a ≡ false) × (b ≡ false)
+pub or_false : (a b : Bool) → a || b ≡ false → (a ≡ false) × (b ≡ false)
 or_false true b e = absurd (true≢false e)
 or_false false b e = (refl, e)
 

@@ -179,8 +179,8 @@ pub fn patterns(counts: [u16; 4], compare: Compare) -> Compared {
 }
 
 /// Random graphs `from` up to `to`, each beside itself under other numbers of its
-/// links, beside copies that differ at one place, a damaged copy and another
-/// graph.
+/// links and in links of its own, beside copies that differ at one place and these
+/// beside each other, a damaged copy and another graph.
 ///
 /// # Errors
 /// The first difference.
@@ -198,13 +198,18 @@ pub fn graphs(seed: u64, from: u64, to: u64, compare: Compare) -> Compared {
         pairs.all(&words, &random::renumbered(&mut rng, &other))?;
         pairs.all(&damaged, &other)?;
         pairs.all(&damaged, &words)?;
+        pairs.all(&damaged, &damage::copy(&mut rng, &other))?;
         if paper::check(&words).is_err() {
             continue;
         }
+        pairs.all(&words, &decoded(&words).words())?;
+        let mut before = words.clone();
         for _ in 0..4 {
             let near = nearly(&mut rng, &words);
             pairs.all(&words, &near)?;
             pairs.all(&random::renumbered(&mut rng, &words), &near)?;
+            pairs.all(&before, &near)?;
+            before = near;
         }
     }
     Ok(pairs.tally)
@@ -290,7 +295,7 @@ fn change(rng: &mut Rng, list: &mut Vec<u16>, bound: usize) {
 pub const ARCHIVE: Compare = raw::founded_compare;
 
 /// The sizes of the tiny contents that are compared pair by pair.
-pub const CONTENTS: [runs::ContentBox; 2] = [(1, 2, 1, 2), (2, 1, 1, 2)];
+pub const CONTENTS: [runs::ContentBox; 3] = [(1, 1, 1, 2), (0, 2, 0, 2), (2, 0, 1, 2)];
 
 /// Those of the long part.
-pub const LONG_CONTENTS: [runs::ContentBox; 3] = [(1, 2, 1, 2), (2, 2, 1, 1), (2, 0, 2, 2)];
+pub const LONG_CONTENTS: [runs::ContentBox; 3] = [(1, 2, 1, 2), (2, 1, 1, 2), (2, 0, 2, 1)];

@@ -1,6 +1,6 @@
 //! Comparisons of two graphs with one fault each: the pairs must show it.
 
-use compare::pairs::{self, ARCHIVE, CONTENTS, Compare};
+use compare::pairs::{self, ARCHIVE, CONTENTS, Compare, Pairs};
 
 /// The words behind a pointer.
 unsafe fn words<'a>(graph: *const u16, len: usize) -> &'a [u16] {
@@ -148,5 +148,48 @@ fn each_fault_is_seen() {
     for (name, compare, what) in faults {
         let said = seen(compare).expect(name);
         assert!(said.contains(what), "{name}: {said:?}");
+    }
+}
+
+/// The graphs that docs/FORMAT.md works by hand.
+#[test]
+fn worked() {
+    let heater = [1, 2, 2, 2, 2, 1, 0, 0, 1, 1, 0, 2, 1, 1, 2, 0, 0, 1, 0];
+    let others: [(&[u16], u32); 6] = [
+        (
+            &[
+                1, 2, 2, 2, 3, 1, 0, 0, 1, 1, 0, 2, 3, 1, 1, 1, 0, 9, 2, 0, 0,
+            ],
+            0,
+        ),
+        (
+            &[
+                1, 2, 2, 3, 2, 1, 0, 0, 1, 1, 0, 2, 1, 1, 2, 0, 1, 0, 0, 1, 0,
+            ],
+            1,
+        ),
+        (
+            &[1, 2, 2, 2, 2, 4, 0, 0, 0, 0, 0, 2, 1, 1, 2, 0, 0, 1, 0],
+            1,
+        ),
+        (
+            &[1, 2, 2, 2, 2, 1, 0, 0, 0, 0, 0, 2, 1, 1, 2, 0, 0, 1, 0],
+            2,
+        ),
+        (
+            &[
+                1, 2, 2, 2, 3, 1, 0, 0, 1, 1, 0, 2, 1, 1, 3, 0, 2, 0, 0, 1, 0,
+            ],
+            1,
+        ),
+        (
+            &[1, 2, 2, 2, 2, 1, 0, 0, 1, 1, 0, 2, 1, 1, 2, 0, 0, 2, 0],
+            8 << 16 | 1,
+        ),
+    ];
+    let mut pairs = Pairs::new(ARCHIVE);
+    for (other, said) in others {
+        assert_eq!(answer(&heater, other), said);
+        pairs.all(&heater, other).expect("as the papers have it");
     }
 }
