@@ -22,7 +22,7 @@ use Rattle.refusals.proofs.RefusedLaws.{number_some}
 use Rattle.refusals.proofs.PlaceLaws.{if_place, or_place, graph_place}
 use Rattle.cycles.specs.Outcome.{Outcome, refused, loops, refusal, outcome, work_after, ClosedWalk}
 use Rattle.theory.specs.Order.{content_cmp}
-use Rattle.compare.specs.Comparison.{Comparison, turned_away, ordered, refusal_of_two, comparison}
+use Rattle.compare.specs.Comparison.{Comparison, turned_away, in_order, refusal_of_two, comparison}
 use Rattle.founded.specs.declared.CallError.{CallError}
 use Rattle.founded.specs.Answers.{call_of, Prepares, Completes}
 use Rattle.founded.proofs.ShortLaws.{filled, filled_answer, filled_leaves}
@@ -88,7 +88,7 @@ module _ (lim : ℕ) (ed : Edition) where
       low : (refusal_of_two ed x y).place < lim
       low = or_place some (graph_answer ed x) (graph_answer ed y) (graph_place some ed x n p k) (graph_place some ed y n' p' k')
 
-      go : (t : Bool) → ComparisonPlaced lim (cond t (ordered (content_cmp x y)) (turned_away (refusal_of_two ed x y)))
+      go : (t : Bool) → ComparisonPlaced lim (cond t (in_order (content_cmp x y)) (turned_away (refusal_of_two ed x y)))
       go true = tt
       go false = low
 

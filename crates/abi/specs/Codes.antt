@@ -7,7 +7,7 @@ use Rattle.refusals.specs.Answer.{Answer}
 use Rattle.refusals.specs.Refusals.{graph_answer}
 use Rattle.std.specs.declared.cmp.Ordering.{Ordering}
 use Rattle.std.specs.declared.cmp.Ordering.TheVariants.{Less, Equal, Greater}
-use Rattle.compare.specs.Comparison.{Comparison, turned_away, ordered}
+use Rattle.compare.specs.Comparison.{Comparison, turned_away, in_order}
 use Rattle.cycles.specs.Outcome.{Outcome, refused, loops, refusal, outcome, work_after, ClosedWalk}
 use Rattle.founded.specs.Answers.{prepare_answer, complete_answer, PrepareLeaves, CompleteLeaves}
 use Rattle.unfounded.specs.Unproduced.{UnfoundedLeaves}
@@ -38,12 +38,12 @@ order_code Greater = 2
 
 abbrev pub ComparisonTells : (lim : ℕ) → Comparison → ℕ → Type 0
 ComparisonTells lim (turned_away a) r = Tells lim a r
-ComparisonTells lim (ordered o) r = r ≡ order_code o
+ComparisonTells lim (in_order o) r = r ≡ order_code o
 
 -- the place in a refusal, if it is one, fits the low half
 abbrev pub ComparisonPlaced : (lim : ℕ) → Comparison → Type 0
 ComparisonPlaced lim (turned_away a) = a.place < lim
-ComparisonPlaced lim (ordered o) = Unit {0}
+ComparisonPlaced lim (in_order o) = Unit {0}
 
 module _ (lim : ℕ) (ed : Edition) where
   pub record Needed (graph work work' : List ℕ) (r : ℕ) : Type 0 where

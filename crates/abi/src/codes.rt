@@ -91,6 +91,7 @@ pub fn call_code<C: Code>(answered: Result<(), CallError>) -> C
     )
 }
 
+// The comparison: a refusal has the check's code.
 pub fn compared_code<C: Code>(compared: Result<Ordering, Refusal>) -> C
     requires { ComparisonPlaced C.limit (comparison_of compared) }
     ensures { ComparisonTells C.limit (comparison_of compared) (C.value result) }
@@ -99,9 +100,6 @@ pub fn compared_code<C: Code>(compared: Result<Ordering, Refusal>) -> C
         Ok(Ordering::Equal) => C::of(0, 0),
         Ok(Ordering::Less) => C::of(0, 1),
         Ok(Ordering::Greater) => C::of(0, 2),
-        Err(e) => {
-            let told = Numbered::from(e);
-            C::of(told.number, told.place)
-        }
+        Err(e) => checked_code(Err(e)),
     }
 }

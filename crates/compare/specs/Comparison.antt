@@ -9,10 +9,10 @@ use Rattle.theory.specs.Order.{content_cmp}
 
 pub data Comparison : Type 0 where
   turned_away : Answer → Comparison
-  ordered : Ordering → Comparison
+  in_order : Ordering → Comparison
 
 abbrev pub comparison_of : Result Ordering Refusal → Comparison
-comparison_of (Ok o) = ordered o
+comparison_of (Ok o) = in_order o
 comparison_of (Err e) = turned_away (refused_as e)
 
 -- the first graph's refusal, or where that is accepted the second's
@@ -20,4 +20,4 @@ abbrev pub refusal_of_two : Edition → (x y : List ℕ) → Answer
 refusal_of_two ed x y = or_next (graph_answer ed x) (graph_answer ed y)
 
 abbrev pub comparison : Edition → (x y : List ℕ) → Comparison
-comparison ed x y = cond (eqb (refusal_of_two ed x y).number 0) (ordered (content_cmp x y)) (turned_away (refusal_of_two ed x y))
+comparison ed x y = cond (eqb (refusal_of_two ed x y).number 0) (in_order (content_cmp x y)) (turned_away (refusal_of_two ed x y))

@@ -22,7 +22,7 @@ use Rattle.theory.proofs.OrderLaws.{same_content}
 use Rattle.refusals.specs.Answer.{Answer, accept, or_next, first_refusal}
 use Rattle.refusals.specs.Refusals.{graph_rows, graph_answer}
 use Rattle.refusals.specs.declared.Refusal.{Refusal}
-use Rattle.compare.specs.Comparison.{Comparison, turned_away, ordered, comparison_of, refusal_of_two, comparison}
+use Rattle.compare.specs.Comparison.{Comparison, turned_away, in_order, comparison_of, refusal_of_two, comparison}
 use Rattle.cycles.specs.Outcome.{outcome}
 use Rattle.founded.specs.Answers.{call_of, Prepares, Completes}
 use Rattle.founded.specs.declared.CallError.{CallError}
@@ -45,10 +45,10 @@ two_accepted a b e = go (bool_cases (eqb a.number 0))
     go (inl t) = (t, rw t at e)
     go (inr f) = clash (rw f at e) f
 
-never_ordered : {X : Type 0} {a : Answer} {o : Ordering} → turned_away a ≡ ordered o → X
-never_ordered e = let z : ◌≡◌ {A = ℕ} 0 1 = cc in absurd (omega arith)
+never_in_order : {X : Type 0} {a : Answer} {o : Ordering} → turned_away a ≡ in_order o → X
+never_in_order e = let z : ◌≡◌ {A = ℕ} 0 1 = cc in absurd (omega arith)
 
-ordered_same : {o q : Ordering} → ordered o ≡ ordered q → o ≡ q
+ordered_same : {o q : Ordering} → in_order o ≡ in_order q → o ≡ q
 ordered_same e = cc
 
 -- an order is said of two accepted graphs alone, and is theirs
@@ -58,20 +58,20 @@ pub record Said (ed : Edition) (x y : List ℕ) (o : Ordering) : Type 0 where
   pub order : content_cmp x y ≡ o
 
 module _ (ed : Edition) (x y : List ℕ) where
-  pub order_said : {o : Ordering} → comparison ed x y ≡ ordered o → Said ed x y o
+  pub order_said : {o : Ordering} → comparison ed x y ≡ in_order o → Said ed x y o
   unfolding graph_answer
   order_said {o} e = go (bool_cases (eqb (refusal_of_two ed x y).number 0))
     where
       answer : Bool → Comparison
-      answer b = cond b (ordered (content_cmp x y)) (turned_away (refusal_of_two ed x y))
+      answer b = cond b (in_order (content_cmp x y)) (turned_away (refusal_of_two ed x y))
 
       go : (eqb (refusal_of_two ed x y).number 0 ≡ true) ⊎ (eqb (refusal_of_two ed x y).number 0 ≡ false) → Said ed x y o
       go (inl t) =
           let two = two_accepted (graph_answer ed x) (graph_answer ed y) t in
           record { first = zero_accepts (graph_rows ed x) two.0; second = zero_accepts (graph_rows ed y) two.1; order = ordered_same (sym (ap answer t) ∙ e) }
-      go (inr f) = never_ordered (sym (ap answer f) ∙ e)
+      go (inr f) = never_in_order (sym (ap answer f) ∙ e)
 
-module _ (x y : List ℕ) (r : Result Ordering Refusal) (promise : comparison_of r ≡ comparison edition1 x y) (equal : comparison_of r ≡ ordered Equal) where
+module _ (x y : List ℕ) (r : Result Ordering Refusal) (promise : comparison_of r ≡ comparison edition1 x y) (equal : comparison_of r ≡ in_order Equal) where
   said : Said edition1 x y Equal
   said = order_said edition1 x y (sym promise ∙ equal)
 

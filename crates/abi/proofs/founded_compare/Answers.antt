@@ -12,7 +12,7 @@ compared_code-requires c =
     let n : get_or x 2 0 < 65536 = omega (arith, c.shared_slice_known-1.given 2) in
     let p : get_or x 3 0 < 65536 = omega (arith, c.shared_slice_known-1.given 3) in
     let k : get_or x 4 0 < 65536 = omega (arith, c.shared_slice_known-1.given 4) in
-    let n' : get_or y 2 0 < 65536 = omega (arith, c.shared_slice_known-2.given 2) in
-    let p' : get_or y 3 0 < 65536 = omega (arith, c.shared_slice_known-2.given 3) in
-    let k' : get_or y 4 0 < 65536 = omega (arith, c.shared_slice_known-2.given 4) in
+    let n' : get_or y 2 0 < 65536 = omega (arith, c.shared_slice_known-2-1.given 2) in
+    let p' : get_or y 3 0 < 65536 = omega (arith, c.shared_slice_known-2-1.given 3) in
+    let k' : get_or y 4 0 < 65536 = omega (arith, c.shared_slice_known-2-1.given 4) in
     compared_placed 65536 edition1 x y c.compare.ensures (omega arith) n p k n' p' k'
