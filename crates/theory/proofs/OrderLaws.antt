@@ -128,6 +128,13 @@ module _ (x y : List ℕ) where
       let a = then_equal (nat_cmp (theory_of x).atoms (theory_of y).atoms) (nat_cmp (theory_of x).nodes (theory_of y).nodes) p.0 in
       (number_equal (theory_of x).atoms (theory_of y).atoms a.0, number_equal (theory_of x).nodes (theory_of y).nodes a.1, number_equal (theory_of x).producers (theory_of y).producers p.1)
 
+  -- of graphs with the same counts the first node that differs decides, whatever comes after it
+  pub node_decides : counts_cmp x y ≡ Equal → (n : ℕ) → n < (theory_of x).nodes → ((i : ℕ) → i < n → node_cmp (node_content x i) (node_content y i) ≡ Equal)
+      → {o : Ordering} → node_cmp (node_content x n) (node_content y n) ≡ o → is_ne o ≡ true → content_cmp x y ≡ o
+  node_decides c n l h {o} e d =
+      let nodes : Nodes ≡ o = rw (← (counts_equal c).1) (turns_stop node_cmp (node_content x) (node_content y) 0 n (theory_of x).nodes l (λ i k. subst (λ (j : ℕ). node_cmp (node_content x j) (node_content y j) ≡ Equal) (omega arith) (h i k)) (subst (λ (j : ℕ). node_cmp (node_content x j) (node_content y j) ≡ o) (omega arith) e) d) in
+      content_parts ∙ rw c (decides Nodes Producers (ap is_ne nodes ∙ d) ∙ nodes)
+
   to_content : content_cmp x y ≡ Equal → SameContent x y
   unfolding node_content producer_content
   to_content e =
@@ -158,15 +165,6 @@ module _ (x y : List ℕ) where
 
   pub same_content : content_cmp x y ≡ Equal ↔ SameContent x y
   same_content = (to_content, from_content)
-
-  -- ---- record by record
-
-  -- of graphs with the same counts the first node that differs decides, whatever comes after it
-  pub node_decides : counts_cmp x y ≡ Equal → (n : ℕ) → n < (theory_of x).nodes → ((i : ℕ) → i < n → node_cmp (node_content x i) (node_content y i) ≡ Equal)
-      → {o : Ordering} → node_cmp (node_content x n) (node_content y n) ≡ o → is_ne o ≡ true → content_cmp x y ≡ o
-  node_decides c n l h {o} e d =
-      let nodes : Nodes ≡ o = rw (← (counts_equal c).1) (turns_stop node_cmp (node_content x) (node_content y) 0 n (theory_of x).nodes l (λ i k. subst (λ (j : ℕ). node_cmp (node_content x j) (node_content y j) ≡ Equal) (omega arith) (h i k)) (subst (λ (j : ℕ). node_cmp (node_content x j) (node_content y j) ≡ o) (omega arith) e) d) in
-      content_parts ∙ rw c (decides Nodes Producers (ap is_ne nodes ∙ d) ∙ nodes)
 
 -- ---- the order in the request's words
 
