@@ -4,7 +4,7 @@ use Rattle.refusals.proofs.AcceptedLaws.{accepted}
 use Rattle.words.proofs.NumberLaws.{numbers_length}
 use Rattle.preparation.specs.Flags.{Listed}
 use Rattle.founded.proofs.OutcomeLaws.{absorbed_refused, done}
-use Rattle.founded.proofs.CallLaws.{not_zero, mask_fits, output_fits, work_fits}
+use Rattle.founded.proofs.CallLaws.{not_zero, output_words, output_fits, work_fits}
 use Rattle.unfounded.proofs.ListLaws.{lists}
 use Rattle.unfounded.proofs.unfounded_accepted.Goals as goal
 
@@ -18,7 +18,7 @@ pub hand_out-requires : goal.hand_out-requires
 unfolding Listed
 hand_out-requires g c =
     let k = c.in-Ok.ensures in
-    (omega (arith, numbers_length g.met.W.Word.each c.args.work.now, k.size, c.bases_of-b.ensures.laid, c.bases_of-b.ensures.ends), mask_fits _ _ (output_fits _ _ _ _ c.requires.1) ∙ rw c.bases_of-b.ensures.atoms)
+    (omega (arith, numbers_length g.met.W.Word.each c.args.work.now, k.size, c.bases_of-b.ensures.laid, c.bases_of-b.ensures.ends), output_words _ _ (output_fits _ _ _ _ c.requires.1) ∙ rw c.bases_of-b.ensures.atoms)
 
 pub returns-in-Ok : goal.returns-in-Ok
 unfolding Listed
