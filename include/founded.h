@@ -13,11 +13,11 @@
  * body + 1 (0 marks a fact), first link; K links of value, next, in any order. Atoms, nodes and producers are numbered from 0, links from 1; link 0 ends a chain.
  * docs/FORMAT.md has the layout, the rules and graphs worked by hand. (The program founded_support takes the atom mask before the node mask; founded_complete takes the node mask first.)
  *
- * Lengths that pass: graph 5 + 3N + 2P + 2K words; never (the node mask) FOUNDED_MASK_WORDS(N); atom_never (the atom mask) and output FOUNDED_MASK_WORDS(A);
- * work FOUNDED_WORK_WORDS in edition 1, and in edition 2 what founded_wide_work_words gives for the graph. Every other length is an answer: 1 or 3 of the graph,
- * 10 of masks and output, 11 of the work area.
- * Bit i of word w of a mask, lowest first, stands for 64w + i. A set bit is a cut: ruled out. Bits past the last number are ignored where they are read and 0
- * where they are written.
+ * Lengths that pass: graph 5 + 3N + 2P + 2K words; never (the node mask) up to FOUNDED_MASK_WORDS(N); atom_never (the atom mask) up to FOUNDED_MASK_WORDS(A); output
+ * FOUNDED_MASK_WORDS(A); work FOUNDED_WORK_WORDS in edition 1, and in edition 2 what founded_wide_work_words gives for the graph. Every other length is an answer: 1 or 3
+ * of the graph, 10 of masks and output, 11 of the work area.
+ * Bit i of word w of a mask, lowest first, stands for 64w + i. A set bit is a cut: ruled out. A bit past the mask's end is no cut: trailing zero words may be left out,
+ * all of them too. Bits past the last number are ignored where they are read and 0 where they are written.
  *
  * A refusal's code is number * 2^16 + place in 32 bits, and of a wide call number * 2^32 + place in 64 bits: FOUNDED_NUMBER and FOUNDED_PLACE take the one apart,
  * FOUNDED_WIDE_NUMBER and FOUNDED_WIDE_PLACE the other. Of several refusals that apply the first in the table's order is given: that of the numbers, but 14 stands
@@ -72,7 +72,7 @@ enum founded_refusal {
     FOUNDED_LEAF = 7,      /* a leaf not below its own node's number. Place: the first such node */
     FOUNDED_HEAD = 8,      /* a head not below A. Place: the first such producer */
     FOUNDED_ENTRIES = 9,   /* more than 4,096 leaf entries or more than 4,096 head entries; in edition 2 more than 1,048,576 */
-    FOUNDED_LENGTHS = 10,  /* the node mask isn't FOUNDED_MASK_WORDS(N) words long, or the atom mask or the output isn't FOUNDED_MASK_WORDS(A) */
+    FOUNDED_LENGTHS = 10,  /* the node mask has more than FOUNDED_MASK_WORDS(N) words, or the atom mask more than FOUNDED_MASK_WORDS(A), or the output not exactly so many */
     FOUNDED_WORK = 11,     /* the work area is not exactly 32,768 16-bit words; in edition 2 not exactly 16(A + N + P + 1) + 4(leaf entries + head entries)
                               32-bit words */
     FOUNDED_ABSORBED = 12, /* the body cone holds a node of kind 7. Place: the first such node */

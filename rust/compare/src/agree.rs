@@ -13,6 +13,27 @@ use crate::ours::{Lengths, Made, NUMBERS, Ours};
 /// The node mask, then the atom mask.
 pub type Masks = (Vec<u64>, Vec<u64>);
 
+/// A mask filled up with zeros to its full length over that many numbers, as
+/// the original is given it (request 2).
+pub fn filled(mask: &[u64], count: usize) -> Vec<u64> {
+    let mut words = mask.to_vec();
+    words.resize(paper::mask_len(count), 0);
+    words
+}
+
+/// The original's missing list for masks that may be short.
+fn original_missing(
+    original: &Oracle,
+    graph: &Graph,
+    (never, atom_never): &Masks,
+) -> Result<Vec<u64>, Ended> {
+    let (never, atom_never) = (
+        filled(never, graph.nodes.len()),
+        filled(atom_never, graph.atoms),
+    );
+    original.missing(&never, &atom_never)
+}
+
 /// What was compared so far, in one edition.
 #[derive(Clone, Copy, Debug, Default, PartialEq, Eq)]
 pub struct Tally {
@@ -278,7 +299,7 @@ fn answers<W: Word>(
             Ok(marked)
         }
         Err(refusal) => {
-            refused_with_12(&original, masks).map_err(on(words, None))?;
+            refused_with_12(&original, &graph, masks).map_err(on(words, None))?;
             Err(refusal)
         }
     };
@@ -316,13 +337,13 @@ fn marks(prepared: &Prepared<'_>, original: &Oracle) -> Result<Vec<u64>, String>
 }
 
 /// Where the document gives 12, the original ends in `InvalidProgram`.
-fn refused_with_12(original: &Oracle, masks: &[Masks]) -> Result<(), String> {
+fn refused_with_12(original: &Oracle, graph: &Graph, masks: &[Masks]) -> Result<(), String> {
     let ended = Err(Ended::InvalidProgram);
     equal("cyclic_atoms", original.cyclic_atoms(), ended.clone())?;
-    for (never, atom_never) in masks {
+    for pair in masks {
         equal(
             "missing",
-            original.missing(never, atom_never),
+            original_missing(original, graph, pair),
             ended.clone(),
         )?;
     }
@@ -333,14 +354,15 @@ fn refused_with_12(original: &Oracle, masks: &[Masks]) -> Result<(), String> {
 fn pass(
     prepared: &Prepared<'_>,
     original: &Oracle,
-    (never, atom_never): &Masks,
+    pair: &Masks,
     tally: &mut Tally,
 ) -> Result<Vec<u64>, String> {
+    let (never, atom_never) = pair;
     let missing = prepared.missing(never, atom_never);
     let packed = paper::pack(&missing);
     equal(
         "missing",
-        original.missing(never, atom_never),
+        original_missing(original, prepared.graph, pair),
         Ok(packed.clone()),
     )?;
     if !paper::groups::unearned(prepared, &missing, never, atom_never) {

@@ -117,6 +117,28 @@ pub fn graphs(seed: u64, from: u64, to: u64) -> Compared {
     })
 }
 
+/// Random graphs `from` up to `to` with a pair of masks each, which are handed over
+/// at all lengths from 0 to the full ones (request 2).
+pub fn short(seed: u64, from: u64, to: u64) -> Compared {
+    both(Lengths::Right, |visit| {
+        for i in from..to {
+            let mut rng = numbered(seed ^ SHORTENED, i);
+            let words: Vec<u16> = random::graph(&mut rng, SCALES[(i % 5) as usize]);
+            let mut masks = vec![];
+            for (never, atom_never) in random::masks(&mut rng, &words, 1) {
+                for n in 0..=never.len() {
+                    let cut = |a: usize| (never[..n].to_vec(), atom_never[..a].to_vec());
+                    masks.extend((0..=atom_never.len()).map(cut));
+                }
+            }
+            visit(&words, &masks);
+        }
+    })
+}
+
+/// What the generators of these graphs differ in from those of the random ones.
+const SHORTENED: u64 = 0x3333_0000_0000_0000;
+
 /// Random graphs `from` up to `to`, each under three random numberings of its
 /// links and under the one that is the wrong way round, with two pairs of masks.
 pub fn renumbered(seed: u64, from: u64, to: u64) -> Compared {

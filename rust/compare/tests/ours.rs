@@ -216,6 +216,54 @@ mod fault {
             *lent.2.0.cast_mut().add(lent.2.1) = 0;
         }
     });
+    /// Masks that are shorter than their full lengths, node mask and atom mask.
+    unsafe fn short<W: Word>(graph: *const W, len: usize, lengths: [usize; 2]) -> bool {
+        let graph = unsafe { std::slice::from_raw_parts(graph, len) };
+        let full = [2, 1].map(|at| graph.get(at).map_or(0, |&n| n.into() as usize));
+        (0..2).any(|of| lengths[of] < paper::mask_len(full[of]))
+    }
+
+    #[allow(clippy::too_many_arguments)]
+    pub unsafe extern "C" fn short_refused<W: Word>(
+        g: *const W,
+        gl: usize,
+        n: *const u64,
+        nl: usize,
+        a: *const u64,
+        al: usize,
+        o: *mut u64,
+        ol: usize,
+        w: *mut W,
+        wl: usize,
+    ) -> W::Code {
+        if unsafe { short(g, gl, [nl, al]) } {
+            return W::code(10, 0);
+        }
+        unsafe { (W::ARCHIVE.complete)(g, gl, n, nl, a, al, o, ol, w, wl) }
+    }
+
+    #[allow(clippy::too_many_arguments)]
+    pub unsafe extern "C" fn past_the_end_is_cut<W: Word>(
+        g: *const W,
+        gl: usize,
+        n: *const u64,
+        nl: usize,
+        a: *const u64,
+        al: usize,
+        o: *mut u64,
+        ol: usize,
+        w: *mut W,
+        wl: usize,
+    ) -> W::Code {
+        if !unsafe { short(g, gl, [nl, al]) } {
+            return unsafe { (W::ARCHIVE.complete)(g, gl, n, nl, a, al, o, ol, w, wl) };
+        }
+        let mut mask = unsafe { std::slice::from_raw_parts(a, al) }.to_vec();
+        mask.resize(ol.max(al), !0);
+        let (a, al) = (mask.as_ptr(), mask.len());
+        unsafe { (W::ARCHIVE.complete)(g, gl, n, nl, a, al, o, ol, w, wl) }
+    }
+
     fault!(pass before_output(lent, answer) {
         if success::<W>(answer) {
             *lent.3.0.sub(1) = 0;
@@ -304,6 +352,14 @@ fn faults<W: Word>() -> Vec<(Calls<W>, &'static str)> {
         (
             with(|calls| calls.complete = fault::work_of_10),
             "with wrong lengths, our complete's work area is not unchanged",
+        ),
+        (
+            with(|calls| calls.complete = fault::short_refused),
+            "with wrong lengths, our complete: (10, 0)",
+        ),
+        (
+            with(|calls| calls.complete = fault::past_the_end_is_cut),
+            "with wrong lengths, our complete's output",
         ),
         (
             with(|calls| calls.complete = fault::work_of_12),

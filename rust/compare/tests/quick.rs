@@ -92,6 +92,11 @@ fn random_graphs() {
 }
 
 #[test]
+fn short_masks() {
+    runs::short(1, 0, 1_000).expect("no difference");
+}
+
+#[test]
 fn renumbered_links() {
     runs::renumbered(1, 0, 4_000).expect("no difference");
 }

@@ -26,7 +26,7 @@ pub enum Refusal {
     Head(ProducerId),
     /// 9: more than 4,096 leaf entries or more than 4,096 head entries; in edition 2 more than 1,048,576.
     Entries,
-    /// 10: a mask or the output has another length than the graph asks for.
+    /// 10: a mask is longer than the graph asks for (it may be shorter), or the output has another length.
     Lengths,
     /// 11: the work area is not exactly 32,768 words; in edition 2 not exactly [`wide::work_words`](crate::wide::work_words).
     Work,
@@ -126,7 +126,7 @@ impl Refusal {
                 "more than 4,096 leaf entries or more than 4,096 head entries (edition 2: more than 1,048,576)"
             }
             Self::Lengths => {
-                "the node mask isn't ⌈N/64⌉ words long, or the atom mask or the output isn't ⌈A/64⌉"
+                "the node mask has more than ⌈N/64⌉ words, or the atom mask more than ⌈A/64⌉, or the output not ⌈A/64⌉"
             }
             Self::Work => {
                 "not exactly 32,768 16-bit words (edition 2: 16·(A + N + P + 1) + 4·(leaf entries + head entries) 32-bit words)"

@@ -60,13 +60,16 @@ impl<W: Word> Solver<W> {
     /// The pass: the missing atoms, under the cuts of the two masks.
     ///
     /// # Errors
-    /// [`Refusal::Absorbed`], and [`Refusal::Lengths`] if a mask is that of a graph of another size.
+    /// [`Refusal::Absorbed`], and [`Refusal::Lengths`] if a mask is that of a graph of another count.
     pub fn complete(
         &mut self,
         graph: &GraphOf<W>,
         never: &NodeMask,
         atom_never: &AtomMask,
     ) -> Result<Atoms<'_>, Refusal> {
+        if never.count() != graph.nodes() || atom_never.count() != graph.atoms() {
+            return Err(Refusal::Lengths);
+        }
         let (output, work) = self.lent(graph);
         calls::complete(
             graph.words(),

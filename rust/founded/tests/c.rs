@@ -48,7 +48,8 @@ cyclic 0 3
 missing 0 3
 with a fact 0 0
 heater cut 0 2
-no mask: 10 0
+empty masks 0 3
+long mask: 10 0
 short work area: 11 0
 absorbed: 12 1
 comes back: 14 1
@@ -64,7 +65,8 @@ short: 3 0
 loops 1
 cyclic 0 3
 missing 0 3
-no mask: 10 0
+empty masks 0 3
+long mask: 10 0
 short work area: 11 0
 with a fact 0 0
 heater cut 0 2

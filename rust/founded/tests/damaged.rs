@@ -99,7 +99,9 @@ fn left<W: Width>(
 }
 
 fn has(words: &[u64], atom: usize) -> bool {
-    words[atom / 64] >> (atom % 64) & 1 == 1
+    words
+        .get(atom / 64)
+        .is_some_and(|word| word >> (atom % 64) & 1 == 1)
 }
 
 /// All four calls on these words. Gives the number of the pass's answer.
@@ -149,7 +151,7 @@ fn run<W: Width>(rng: &mut Rng, graph: &[W]) -> u16 {
     assert_eq!(needed.err(), bad_work);
     let bad_output = (lengths.output != sizes[1]).then_some(Refusal::Lengths);
     let bad_masks =
-        (never.len() != sizes[0] || atom_never.len() != sizes[1]).then_some(Refusal::Lengths);
+        (never.len() > sizes[0] || atom_never.len() > sizes[1]).then_some(Refusal::Lengths);
     match (&cyclic, bad_output.or(bad_work)) {
         (Err(Refusal::Absorbed(node)), None) => assert_eq!(count(5 + 3 * node.0 as usize), 7),
         (answer, expected) => assert_eq!(answer.as_ref().err(), expected.as_ref()),

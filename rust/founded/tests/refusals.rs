@@ -269,14 +269,10 @@ fn ten_to_twelve<W: Width>() {
     let graph = self_loop::<W>();
     let work = work_words(graph.words());
     assert_eq!(both(&graph, 1, 1, 1, work), Ok(()));
-    for lengths in [
-        [0, 1, 1],
-        [2, 1, 1],
-        [1, 0, 1],
-        [1, 2, 1],
-        [1, 1, 0],
-        [1, 1, 2],
-    ] {
+    for [never, atom_never] in [[0, 1], [1, 0], [0, 0]] {
+        assert_eq!(both(&graph, never, atom_never, 1, work), Ok(()));
+    }
+    for lengths in [[2, 1, 1], [1, 2, 1], [1, 1, 0], [1, 1, 2], [0, 0, 0]] {
         let [never, atom_never, output] = lengths;
         for work in [work, 0] {
             let answer = both(&graph, never, atom_never, output, work);

@@ -7,12 +7,11 @@ use crate::meaning::Prepared;
 use crate::table::Refusal;
 use crate::{mask_len, pack};
 
-/// Row 10, for each length lent and the count it stands for.
-fn lengths(lent: &[(usize, usize)]) -> Result<(), Refusal> {
-    if lent
-        .iter()
-        .any(|&(length, count)| length != mask_len(count))
-    {
+/// Row 10, for the masks lent and the counts they stand for, which may be
+/// shorter (request 2), and for the output, which may not.
+fn lengths(masks: &[(&[u64], usize)], output: usize, atoms: usize) -> Result<(), Refusal> {
+    let long = |&(mask, count): &(&[u64], usize)| mask.len() > mask_len(count);
+    if masks.iter().any(long) || output != mask_len(atoms) {
         return Err(Refusal::at(10, 0));
     }
     Ok(())
@@ -51,7 +50,7 @@ pub fn prepare<W: Word>(
     work_len: usize,
 ) -> Result<Vec<u64>, Refusal> {
     let graph = Graph::decode(words)?;
-    lengths(&[(output_len, graph.atoms)])?;
+    lengths(&[], output_len, graph.atoms)?;
     work_area::<W>(work_len, &graph)?;
     Ok(pack(&graph.prepared()?.marked))
 }
@@ -95,11 +94,8 @@ fn listed<W: Word>(
     list: impl Fn(&Prepared<'_>) -> Vec<bool>,
 ) -> Result<Vec<u64>, Refusal> {
     let graph = Graph::decode(words)?;
-    lengths(&[
-        (never.len(), graph.nodes.len()),
-        (atom_never.len(), graph.atoms),
-        (output_len, graph.atoms),
-    ])?;
+    let masks = [(never, graph.nodes.len()), (atom_never, graph.atoms)];
+    lengths(&masks, output_len, graph.atoms)?;
     work_area::<W>(work_len, &graph)?;
     Ok(pack(&list(&graph.prepared()?)))
 }

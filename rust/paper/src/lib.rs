@@ -37,9 +37,11 @@ pub fn mask_len(count: usize) -> usize {
     count.div_ceil(64)
 }
 
-/// Whether `number` is cut: bit i of word w, lowest first, is 64·w + i.
+/// Whether `number` is cut: bit i of word w, lowest first, is 64·w + i. A bit
+/// past the mask's end reads as not cut (request 2).
 pub fn is_cut(mask: &[u64], number: usize) -> bool {
-    mask[number / 64] & (1 << (number % 64)) != 0
+    mask.get(number / 64)
+        .is_some_and(|word| word & (1 << (number % 64)) != 0)
 }
 
 /// One bit for each number in the set; unused bits are 0.

@@ -1,8 +1,8 @@
 //! The long comparison: `compare-long SEED COUNT`.
 //!
 //! Compares the limits, every tiny content and pattern, COUNT random graphs, a
-//! quarter as many under other numberings of their links and as many damaged
-//! copies, in the original, in the papers' reading and through the archive, each
+//! quarter as many under other numberings of their links, as many with masks of
+//! all lengths and as many damaged copies, in the original, in the papers' reading and through the archive, each
 //! in edition 1 and laid out in edition 2;
 //! then the limits of edition 2, as many copies damaged in its own words, and
 //! random graphs above edition 1's limits, one of the largest for each 100,000 of
@@ -99,6 +99,7 @@ fn all(seed: u64, count: u64) -> Result<Families, Box<Difference>> {
             format!("renumbered {from}..{to}"),
             runs::renumbered(seed, from, to),
         )?;
+        say(format!("short {from}..{to}"), runs::short(seed, from, to))?;
         say(
             format!("damaged {from}..{to}"),
             runs::damaged(seed, from, to),

@@ -4,6 +4,7 @@
 use oracle::{Ended, Oracle};
 use paper::Refusal;
 
+use crate::agree::filled;
 use crate::ours::NUMBERS;
 
 /// A call on a graph, with the lengths of what it is lent.
@@ -126,7 +127,8 @@ impl Recording {
         self.word(work);
         let missing = paper::complete(words, masks[0], masks[1], output, work);
         self.list(&settled(missing, || {
-            original(words).missing(masks[0], masks[1])
+            let [nodes, atoms] = [2, 1].map(|at| usize::from(words[at]));
+            original(words).missing(&filled(masks[0], nodes), &filled(masks[1], atoms))
         }));
     }
 

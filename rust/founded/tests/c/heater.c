@@ -17,7 +17,7 @@ static void say(const char *what, uint32_t code) {
 }
 
 int main(void) {
-    const uint64_t none[1] = {0}, heater[1] = {1};
+    const uint64_t none[1] = {0}, heater[1] = {1}, long_mask[2] = {0};
     uint64_t output[FOUNDED_MASK_WORDS(2)];
     uint32_t code;
 
@@ -33,7 +33,9 @@ int main(void) {
     printf("with a fact %u %u\n", (unsigned)code, (unsigned)output[0]);
     code = founded_complete(c3, LEN(c3), none, 1, heater, 1, output, LEN(output), work, FOUNDED_WORK_WORDS);
     printf("heater cut %u %u\n", (unsigned)code, (unsigned)output[0]);
-    say("no mask", founded_complete(c2, LEN(c2), none, 0, none, 1, output, LEN(output), work, FOUNDED_WORK_WORDS));
+    code = founded_complete(c2, LEN(c2), none, 0, none, 0, output, LEN(output), work, FOUNDED_WORK_WORDS);
+    printf("empty masks %u %u\n", (unsigned)code, (unsigned)output[0]);
+    say("long mask", founded_complete(c2, LEN(c2), long_mask, 2, none, 1, output, LEN(output), work, FOUNDED_WORK_WORDS));
     say("short work area", founded_needed(c2, LEN(c2), work, FOUNDED_WORK_WORDS - 1));
     code = founded_prepare(absorbed, LEN(absorbed), output, LEN(output), work, FOUNDED_WORK_WORDS);
     say(FOUNDED_NUMBER(code) == FOUNDED_ABSORBED ? "absorbed" : "not absorbed", code);

@@ -24,7 +24,7 @@ static void *some(size_t count, size_t size) {
 }
 
 static void small(void) {
-    const uint64_t none[1] = {0}, heater[1] = {1};
+    const uint64_t none[1] = {0}, heater[1] = {1}, long_mask[2] = {0};
     uint64_t output[FOUNDED_MASK_WORDS(2)];
     size_t words = founded_wide_work_words(c3, LEN(c3));
     uint32_t *work = some(words, sizeof *work);
@@ -40,7 +40,9 @@ static void small(void) {
     printf("cyclic %u %u\n", (unsigned)code, (unsigned)output[0]);
     code = founded_wide_complete(c2, LEN(c2), none, 1, none, 1, output, LEN(output), work, words);
     printf("missing %u %u\n", (unsigned)code, (unsigned)output[0]);
-    say("no mask", founded_wide_complete(c2, LEN(c2), none, 0, none, 1, output, LEN(output), work, words));
+    code = founded_wide_complete(c2, LEN(c2), none, 0, none, 0, output, LEN(output), work, words);
+    printf("empty masks %u %u\n", (unsigned)code, (unsigned)output[0]);
+    say("long mask", founded_wide_complete(c2, LEN(c2), long_mask, 2, none, 1, output, LEN(output), work, words));
     say("short work area", founded_wide_needed(c2, LEN(c2), work, words - 1));
     words = founded_wide_work_words(c3, LEN(c3));
     code = founded_wide_complete(c3, LEN(c3), none, 1, none, 1, output, LEN(output), work, words);
