@@ -2,17 +2,16 @@
 // checks would take three times as long as a check.
 #![tactic(auto)]
 
-ghost use Rattle.std.specs.Prelude.{◌≡◌, ℕ, ◌+◌, ◌≤◌, ◌<◌, length, get_or, Decides};
+ghost use Rattle.std.specs.Prelude.{◌≡◌, ℕ, ◌≤◌, ◌<◌, length, get_or, Decides};
 ghost use Rattle.std.specs.Ordering.{nat_cmp};
 ghost use Rattle.std.specs.Cmp.Lexicographic.{slice_cmp};
-ghost use Rattle.theory.specs.Words.{chain, theory_of};
+ghost use Rattle.theory.specs.Words.{chain};
 ghost use Rattle.theory.specs.Links.{MeetsOnce};
-ghost use Rattle.theory.specs.Accepted.{Accepted};
+ghost use Rattle.theory.specs.Order.{node_content, producer_content, record_cmp, node_cmp, producer_cmp, counts_cmp, content_cmp};
 ghost use Rattle.graph.specs.Layout.{NodeIn, leaf_link, head_link};
 ghost use Rattle.refusals.specs.Passed.{Chained};
 ghost use Rattle.refusals.specs.Answer.{accept};
 ghost use Rattle.refusals.specs.Refusals.{graph_answer};
-ghost use Rattle.theory.specs.Order.{node_content, producer_content, record_cmp, node_cmp, producer_cmp, counts_cmp, content_cmp};
 ghost use Rattle.compare.specs.Beside.{Walkable, Beside, InTurn, SideBySide};
 ghost use Rattle.compare.specs.Comparison.{comparison_of, comparison};
 
