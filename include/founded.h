@@ -1,6 +1,6 @@
 /* The founded-support check: the calls of target/staticlib/libfounded_calls.a, on graphs of edition 1, in 16-bit words, and, with `wide` in their names, on graphs of edition 2,
  * in 32-bit words. tools/archive makes the archive; at the top of the repository cc -Iinclude FILE.c target/staticlib/libfounded_calls.a links it
- * It is for x86-64 Linux, on processors of level x86-64-v2 (those with SSE4.2 and POPCNT), and needs C's memset and
+ * (examples/heater.c is a whole program). It is for x86-64 Linux, on processors of level x86-64-v2 (those with SSE4.2 and POPCNT), and needs C's memset and
  * nothing else.
  *
  * Each call is proved to end and to keep the promises below whatever the words hold. The proof takes for granted that the caller lends memory as follows, for

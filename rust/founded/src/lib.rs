@@ -98,11 +98,17 @@
 //! - [`compare`] is one order for graphs of edition 1, by content, whatever the links' numbering. [`Graph`] is `Ord` by it.
 //! - [`raw`] has them as the archive does.
 //! - A call is turned away by a [`Refusal`], with the number and place of docs/FORMAT.md's table.
+//! - A call's list is shown as [`Atoms`] until the next call; [`Atoms::to_list`] keeps it.
+//! - A [`Theory`] is had from a graph, and a graph from a theory, by `From` and `TryFrom`; a graph's bytes by [`GraphOf::to_bytes`] and [`GraphOf::from_bytes`].
 
+mod bytes;
 mod calls;
 mod chains;
+mod convert;
 mod error;
 mod graph;
+mod ids;
+mod list;
 mod mask;
 pub mod raw;
 mod refusal;
@@ -114,6 +120,7 @@ pub use calls::narrow::{check, compare, complete, needed, prepare, unfounded};
 pub use calls::{WORK_WORDS, mask_words, wide};
 pub use error::Error;
 pub use graph::{Graph, GraphOf, WideGraph};
+pub use list::{AtomList, AtomsIter};
 pub use mask::{AtomMask, Atoms, Cut, Mask, NodeMask};
 pub use refusal::{Chain, Refusal};
 pub use solver::Solver;

@@ -28,7 +28,12 @@ fn made(name: &str) -> PathBuf {
 
 /// What tests/c/NAME.c prints.
 fn printed(name: &str) -> String {
-    let source = Path::new(env!("CARGO_MANIFEST_DIR")).join(format!("tests/c/{name}.c"));
+    printed_by(&format!("tests/c/{name}.c"), name)
+}
+
+/// What a C file's program prints.
+fn printed_by(source: &str, name: &str) -> String {
+    let source = Path::new(env!("CARGO_MANIFEST_DIR")).join(source);
     let program = made(name);
     let [source, program] = [source.as_os_str(), program.as_os_str()];
     for standard in ["-std=c99", "-std=c11"] {
@@ -55,6 +60,12 @@ absorbed: 12 1
 comes back: 14 1
 ";
     assert_eq!(printed("heater"), said);
+}
+
+#[test]
+fn example() {
+    let said = printed_by("../../examples/heater.c", "heater-example");
+    assert_eq!(said, "heater is missing\nlatch is missing\n");
 }
 
 #[test]
