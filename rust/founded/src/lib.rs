@@ -112,6 +112,7 @@ mod list;
 mod mask;
 pub mod raw;
 mod refusal;
+pub mod rules;
 mod solver;
 mod theory;
 mod word;
