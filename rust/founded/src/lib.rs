@@ -100,12 +100,14 @@
 //! - A call is turned away by a [`Refusal`], with the number and place of docs/FORMAT.md's table.
 //! - A call's list is shown as [`Atoms`] until the next call; [`Atoms::to_list`] keeps it.
 //! - A [`Theory`] is had from a graph, and a graph from a theory, by `From` and `TryFrom`; a graph's bytes by [`GraphOf::to_bytes`] and [`GraphOf::from_bytes`].
+//! - [`rules`] reads rule files, [`explain`] tells why their states are missing, in circles; the program `founded` prints that.
 
 mod bytes;
 mod calls;
 mod chains;
 mod convert;
 mod error;
+pub mod explain;
 mod graph;
 mod ids;
 mod list;
