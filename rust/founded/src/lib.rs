@@ -105,6 +105,8 @@
 mod bytes;
 mod calls;
 mod chains;
+#[doc(hidden)]
+pub mod command;
 mod convert;
 mod error;
 pub mod explain;

@@ -2,6 +2,8 @@
 
 #![allow(dead_code, reason = "each test takes what it needs")]
 
+pub mod command;
+
 use founded::{AtomId, Error, Node, NodeId, Refusal, Theory, Word};
 
 /// A width: its edition's numbers as the documents have them, and the calls over plain slices by the names that the crate has for them.

@@ -1,0 +1,2 @@
+% Read beside cubesat.lp: the update that lets the ground set the warm latch.
+warm_latch :- command(heater_on).
