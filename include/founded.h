@@ -27,7 +27,7 @@
  *   outcome         output                  work area
  *   success         the list, each word     all zero
  *   1 to 11, 14     as it was               as it was
- *   12              as it was               all zero
+ *   12, 15          as it was               all zero
  *
  * What output and work area held before has no effect. Graph and masks are never written.
  */
@@ -77,8 +77,9 @@ enum founded_refusal {
     FOUNDED_WORK = 11,     /* the work area is not exactly 32,768 16-bit words; in edition 2 not exactly 16(A + N + P + 1) + 4(leaf entries + head entries)
                               32-bit words */
     FOUNDED_ABSORBED = 12, /* the body cone holds a node of kind 7. Place: the first such node */
-    FOUNDED_COMES_BACK = 14 /* a chain comes back to one of its own links; given after 6 and before 7. Place: the first node whose leaf chain does, or where none does,
+    FOUNDED_COMES_BACK = 14, /* a chain comes back to one of its own links; given after 6 and before 7. Place: the first node whose leaf chain does, or where none does,
                               the first producer whose head chain does. The code does not say which: it is a node if that node's chain has not ended after K links */
+    FOUNDED_ALLOWANCE = 15 /* founded_complete_within alone: the count exceeds the allowance; given after 12 */
 };
 
 #ifdef __cplusplus
@@ -128,6 +129,16 @@ uint32_t founded_unfounded(const uint16_t *graph, size_t graph_len, const uint64
  * links' numbering and links in no chain play no part. It is a total order of the contents, and equal graphs get equal answers and lists from all other calls under equal masks.
  * It is lent no memory. On two equal graphs it takes about the time of two graph checks; where they differ, at most about that of three. */
 uint32_t founded_compare(const uint16_t *graph, size_t graph_len, const uint16_t *other, size_t other_len);
+
+/* The pass within a work allowance: as founded_complete, and *allowance falls by the count. It counts as it goes, and stops as soon as the count would exceed the allowance: that is 15,
+ * and *allowance is 0. After every other refusal *allowance is as it was. A count equal to the allowance is a success, and leaves 0. allowance is not null, is aligned, and
+ * overlaps no buffer of the call.
+ *
+ * The count: one for each head entry of the facts that have a cyclic head; one for each founded atom and each true node of the cyclic cone; for such an atom one for each node that names it; for such
+ * a node one for each leaf entry that is this node, and one for each head entry of the producers with it as their body. It is at most A + 2N + leaf entries + head entries. Check, preparation and
+ * start are not counted: README.md says how long they take. */
+uint32_t founded_complete_within(const uint16_t *graph, size_t graph_len, const uint64_t *never, size_t never_len, const uint64_t *atom_never,
+                                 size_t atom_never_len, uint64_t *output, size_t output_len, uint16_t *work, size_t work_len, uint64_t *allowance);
 
 #ifdef __cplusplus
 }

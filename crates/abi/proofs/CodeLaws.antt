@@ -1,4 +1,4 @@
--- A code that is made of an answer's number and place tells the answer (`told`). Preparation, pass and the list of what nothing produces, whose code tells their answer (`prepared_told`, `completed_told`, `unfounded_told`); over masks
+-- A code that is made of an answer's number and place tells the answer (`told`). Preparation, pass and the list of what nothing produces, whose code tells their answer (`prepared_told`, `completed_told`, `unfounded_told`, `within_told`); over masks
 -- filled up with zero words the pass gives the same code and leaves the same words (`filled_told`). The loop test's number (`needed_told`): it tells the outcome, and on success it is 1 exactly if there is a closed walk. How many words the
 -- work area has: `words_refused`, `words_accepted`. The place in the comparison's answer fits the low half (`compared_placed`).
 use mathlib.Core.Path.{◌≡◌, refl, sym, ap, ◌∙◌}
@@ -26,7 +26,8 @@ use Rattle.compare.specs.Comparison.{Comparison, turned_away, in_order, refusal_
 use Rattle.founded.specs.declared.CallError.{CallError}
 use Rattle.founded.specs.Answers.{call_of, Prepares, Completes}
 use Rattle.founded.proofs.ShortLaws.{filled, filled_answer, filled_leaves}
-use Rattle.abi.specs.Codes.{code_of, Tells, NeedTells, Placed, Needed, PreparedAs, CompletedAs, work_words, UnfoundedAs, ComparisonPlaced}
+use Rattle.abi.specs.Codes.{code_of, Tells, NeedTells, Placed, Needed, PreparedAs, CompletedAs, work_words, UnfoundedAs, CompletedWithinAs, ComparisonPlaced}
+use Rattle.within.specs.WithinAnswers.{CompletesWithin}
 use Rattle.unfounded.specs.Unproduced.{ListsUnfounded}
 
 pub told : {lim : ℕ} {a : Answer} {n p r : ℕ} → n ≡ a.number → p ≡ a.place → Tells lim (refuse n p) r → Tells lim a r
@@ -54,6 +55,10 @@ module _ (lim : ℕ) (ed : Edition) where
   pub unfounded_told : {graph never atom_never output work output' work' : List ℕ} {a : Result (Unit {0}) CallError} {r : ℕ} → ListsUnfounded ed graph never atom_never output work output' work' a → Tells lim (call_of a) r
       → UnfoundedAs lim ed graph never atom_never output work output' work' r
   unfounded_told h t = record { told = rw (← h.answer) t; leaves = rw (← h.answer) h.leaves }
+
+  pub within_told : {graph never atom_never output work : List ℕ} {allowance : ℕ} {output' work' : List ℕ} {left r : ℕ} {a : Answer} → CompletesWithin ed graph never atom_never output work allowance output' work' left a → Tells lim a r
+      → CompletedWithinAs lim ed graph never atom_never output work allowance output' work' left r
+  within_told h t = record { told = rw (← h.answer) t; leaves = rw (← h.answer) h.leaves }
 
   pub needed_told : {o : Outcome} {graph work work' : List ℕ} {r : ℕ} → o ≡ outcome ed graph work → work' ≡ work_after ed graph work
       → ((yes : Bool) → o ≡ loops yes → (yes ≡ true) ↔ ClosedWalk (theory_of graph)) → NeedTells lim o r → Needed lim ed graph work work' r

@@ -11,6 +11,7 @@ use Rattle.compare.specs.Comparison.{Comparison, turned_away, in_order}
 use Rattle.cycles.specs.Outcome.{Outcome, refused, loops, refusal, outcome, work_after, ClosedWalk}
 use Rattle.founded.specs.Answers.{prepare_answer, complete_answer, PrepareLeaves, CompleteLeaves}
 use Rattle.unfounded.specs.Unproduced.{UnfoundedLeaves}
+use Rattle.within.specs.WithinAnswers.{within_answer, work_of, WithinLeaves}
 
 -- the number of the refusal in the high half and its place in the low one; success is 0
 abbrev pub code_of : (lim : ℕ) → Answer → ℕ
@@ -64,6 +65,11 @@ module _ (lim : ℕ) (ed : Edition) where
   pub record UnfoundedAs (graph never atom_never output work output' work' : List ℕ) (r : ℕ) : Type 0 where
     pub told : Tells lim (complete_answer ed graph (length never) (length atom_never) (length output) (length work)) r
     pub leaves : UnfoundedLeaves graph never atom_never output work output' work' (complete_answer ed graph (length never) (length atom_never) (length output) (length work)).number
+
+  -- the pass within an allowance
+  pub record CompletedWithinAs (graph never atom_never output work : List ℕ) (allowance : ℕ) (output' work' : List ℕ) (left r : ℕ) : Type 0 where
+    pub told : Tells lim (within_answer ed graph (length never) (length atom_never) (length output) (length work) allowance (work_of graph never atom_never)) r
+    pub leaves : WithinLeaves graph never atom_never output work allowance output' work' left (within_answer ed graph (length never) (length atom_never) (length output) (length work) allowance (work_of graph never atom_never)).number
 
 -- how many words the work area of an accepted graph has; 0 for a graph that is refused
 abbrev pub work_words : Edition → List ℕ → ℕ

@@ -7,6 +7,7 @@ ghost use Rattle.refusals.specs.Refusals.{answer_of};
 ghost use Rattle.compare.specs.Comparison.{comparison_of};
 ghost use Rattle.cycles.specs.Outcome.{outcome_of};
 ghost use Rattle.founded.specs.Answers.{call_of};
+ghost use Rattle.within.specs.WithinAnswers.{within_of};
 ghost use Rattle.abi.specs.Codes.{Tells, NeedTells, Placed, ComparisonTells, ComparisonPlaced};
 
 use cycles::NeedError;
@@ -14,6 +15,7 @@ use founded::CallError;
 use numbers::Numbered;
 use refusals::Refusal;
 use std::cmp::Ordering;
+use within::WithinError;
 
 pub trait Code: Copy {
     ghost value: { Self → ℕ };
@@ -101,5 +103,20 @@ pub fn compared_code<C: Code>(compared: Result<Ordering, Refusal>) -> C
         Ok(Ordering::Less) => C::of(0, 1),
         Ok(Ordering::Greater) => C::of(0, 2),
         Err(e) => checked_code(Err(e)),
+    }
+}
+
+// The pass within an allowance.
+pub fn within_code<C: Code>(answered: Result<(), WithinError>) -> C
+    requires { (within_of answered).place < C.limit }
+    ensures { Tells C.limit (within_of answered) (C.value result) }
+{
+    match answered {
+        Ok(()) => C::of(0, 0),
+        Err(WithinError::Call(e)) => {
+            let told = Numbered::from(e);
+            C::of(told.number, told.place)
+        }
+        Err(WithinError::Allowance) => C::of(15, 0),
     }
 }

@@ -9,10 +9,11 @@ pub mod wide;
 
 ghost use Rattle.theory.specs.Accepted.{edition1};
 ghost use Rattle.refusals.specs.Refusals.{graph_answer};
-ghost use Rattle.abi.specs.Codes.{Tells, Needed, PreparedAs, CompletedAs, UnfoundedAs, ComparisonTells};
+ghost use Rattle.abi.specs.Codes.{Tells, Needed, PreparedAs, CompletedAs, CompletedWithinAs, UnfoundedAs, ComparisonTells};
 ghost use Rattle.compare.specs.Comparison.{comparison};
 
-use crate::codes::{call_code, checked_code, compared_code, needed_code};
+use crate::codes::{call_code, checked_code, compared_code, needed_code, within_code};
+use within::Meter;
 
 // The graph check.
 #[unsafe(no_mangle)]
@@ -72,4 +73,22 @@ pub extern "C" fn founded_compare(graph: &[u16], other: &[u16]) -> u32
     ensures { ComparisonTells 65536 (comparison edition1 graph.now other.now) result }
 {
     compared_code(compare::compare(graph, other))
+}
+
+// The pass within a work allowance: the allowance is the caller's and falls by the count.
+#[unsafe(no_mangle)]
+pub extern "C" fn founded_complete_within(
+    graph: &[u16],
+    never: &[u64],
+    atom_never: &[u64],
+    output: &mut [u64],
+    work: &mut [u16],
+    allowance: &mut u64,
+) -> u32
+    ensures { CompletedWithinAs 65536 edition1 graph.now never.now atom_never.now output.old work.old allowance.old output.new work.new allowance.new result }
+{
+    let mut meter = Meter { left: *allowance };
+    let answered = within::complete(graph, never, atom_never, output, work, &mut meter);
+    *allowance = meter.left;
+    within_code(answered)
 }

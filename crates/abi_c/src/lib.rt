@@ -5,7 +5,7 @@
 ghost use Rattle.std.specs.Prelude.{◌≡◌};
 ghost use Rattle.theory.specs.Accepted.{edition1, edition2};
 ghost use Rattle.refusals.specs.Refusals.{graph_answer};
-ghost use Rattle.abi.specs.Codes.{Tells, Needed, PreparedAs, CompletedAs, UnfoundedAs, work_words, ComparisonTells};
+ghost use Rattle.abi.specs.Codes.{Tells, Needed, PreparedAs, CompletedAs, CompletedWithinAs, UnfoundedAs, work_words, ComparisonTells};
 ghost use Rattle.compare.specs.Comparison.{comparison};
 
 // Graphs of edition 1: the graph check.
@@ -66,6 +66,21 @@ pub extern "C" fn founded_compare(graph: &[u16], other: &[u16]) -> u32
     ensures { ComparisonTells 65536 (comparison edition1 graph.now other.now) result }
 {
     abi::founded_compare(graph, other)
+}
+
+// The pass within a work allowance: the allowance is the caller's and falls by the count.
+#[unsafe(no_mangle)]
+pub extern "C" fn founded_complete_within(
+    graph: &[u16],
+    never: &[u64],
+    atom_never: &[u64],
+    output: &mut [u64],
+    work: &mut [u16],
+    allowance: &mut u64,
+) -> u32
+    ensures { CompletedWithinAs 65536 edition1 graph.now never.now atom_never.now output.old work.old allowance.old output.new work.new allowance.new result }
+{
+    abi::founded_complete_within(graph, never, atom_never, output, work, allowance)
 }
 
 // Graphs of edition 2: the graph check.

@@ -101,9 +101,10 @@ module _ {lim : ℕ} {b : Bases} {mode : ℕ → Mode} {pred : ℕ → List ℕ}
         same : (i : ℕ) → i < tail → get_or (drop b.queue w') i 0 ≡ get_or (drop b.queue w) i 0
         same i l = get_or-drop b.queue w' i 0 ∙ after.front i l ∙ sym (get_or-drop b.queue w i 0)
 
-        more : queued b w' (head + 1) ≡ v ∷ queued b w head
+        -- the followed part of the queue grows by v
+        pub run_queue : queued b w' (head + 1) ≡ v ∷ queued b w head
         unfolding upto
-        more = rw (add-one head) (ap₂ (λ (x : ℕ) (l : List ℕ). x ∷ l) (same head h ∙ at_head) (upto_same head (drop b.queue w') (drop b.queue w) (λ i l. same i (omega arith))))
+        run_queue = rw (add-one head) (ap₂ (λ (x : ℕ) (l : List ℕ). x ∷ l) (same head h ∙ at_head) (upto_same head (drop b.queue w') (drop b.queue w) (λ i l. same i (omega arith))))
 
         pub run_next : Running lim b mode pred aside w' (head + 1) t'
         run_next = record {
@@ -115,7 +116,7 @@ module _ {lim : ℕ} {b : Bases} {mode : ℕ → Mode} {pred : ℕ → List ℕ}
             fore = omega arith;
             front = λ i l. refl;
             outside = outside_none;
-            settling = rw more after.settling;
+            settling = rw run_queue after.settling;
           };
         }
 

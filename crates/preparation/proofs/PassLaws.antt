@@ -149,7 +149,7 @@ module _ {ws : List ℕ} {ed : Edition} (acc : Accepted ed ws) {b : Bases} {mark
     pub graph_rows : GraphRows ed ws b w₁
     graph_rows = let k = standing_kept s g.outside in record { accepted = acc; based = k.based; tables = k.tables }
 
-    running : {lim : ℕ} → Holds ed lim → Running lim b (pass_mode_among (theory_of ws) marked cone never atom_never) (preds (theory_of ws) everyone) [] w₁ 0 t
+    pub running : {lim : ℕ} → Holds ed lim → Running lim b (pass_mode_among (theory_of ws) marked cone never atom_never) (preds (theory_of ws) everyone) [] w₁ 0 t
     unfolding upto
     running holds = let e = graph_rows.based in record {
       ahead = omega arith;

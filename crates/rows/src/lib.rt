@@ -18,8 +18,8 @@ use chains::Step;
 use std::ops::Range;
 use words::Word;
 
-// Where row r of the table at base stands. `nodes` and `producers` go along this range of the work area and are lent all of it, as a step changes what stands behind.
-fn place<W: Word>(work: &[W], base: usize, rows: usize, r: usize) -> Range<usize>
+// Where row r of the table at base stands. (`nodes` and `producers` go along this range of the work area and are lent all of it, as a step changes what stands behind.)
+pub fn place<W: Word>(work: &[W], base: usize, rows: usize, r: usize) -> Range<usize>
     requires { (n : ℕ) × Spanned n (W.numbers work.now) base rows r }
     ensures { (result.start ≡ start_at (W.numbers work.now) base rows r) × (result.end ≡ start_at (W.numbers work.now) base rows (r + 1)) }
 {

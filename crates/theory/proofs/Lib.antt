@@ -33,3 +33,5 @@ pub mod CutLaws
 pub mod LoopLaws
 pub mod EveryAtomLaws
 pub mod GreatestLaws
+pub mod SumLaws
+pub mod WorkLaws

@@ -1,5 +1,5 @@
 -- The pass as a closure over vertices finds exactly the founded atoms, for every cone that holds what can come to matter (`passed_founded`); the
--- cyclic cone is one (`cyclic_cone_enough`). The same with any set of marked atoms: `among_founded`, `among_enough`.
+-- cyclic cone is one (`cyclic_cone_enough`). The same with any set of marked atoms: `among_founded`, `among_enough`; and of the nodes it finds the true ones of the cone (`among_true`).
 use mathlib.Core.Path.{◌≡◌, refl, sym, ap, ◌∙◌, subst}
 use mathlib.Core.Logic.{◌⊎◌, inl, inr, ◌↔◌}
 use mathlib.Core.Bool.{Bool, true, false, not, ◌&&◌, ◌||◌, cond}
@@ -123,16 +123,24 @@ module _ (th : Theory) (marked cone never atom_never : Set) where
         let k = subst (λ (x : List ℕ). Is (fired (kind_mode (th.kind n) (marked (th.operand n)) (atom_never (th.operand n))) s x)) (preds_node th everyone n l refl) h.1 in
         truth_step th ok never env n l ∙ and_intro (and_right (ltb n th.nodes && cone n) (not (never n)) h.0) (by_kind s ih n l (th.kind n) refl k)
 
-    found_founded : (a : ℕ) → a < th.atoms → Is (passed_among th marked cone never atom_never a) → Is (founded_among th marked never atom_never a)
+    at_node : (s : Set) (v n : ℕ) → v ≡ th.atoms + n → Is (fired (pass_mode_among th marked cone never atom_never v) s (preds th everyone v)) → Is (fired (node_mode_among th marked cone never atom_never n) s (preds th everyone (th.atoms + n)))
+    at_node s v n e q =
+        subst (λ (m : Mode). Is (fired m s (preds th everyone (th.atoms + n)))) (node_among n) (subst (λ (z : ℕ). Is (fired (pass_mode_among th marked cone never atom_never z) s (preds th everyone z))) e q)
+
+    found_good : (v : ℕ) → Is (passed_among th marked cone never atom_never v) → Good v
     unfolding Good
-    found_founded a l p = (closure_induct (vertices th) (pass_mode_among th marked cone never atom_never) (preds th everyone) Good step a p).0 l
-      where
-        step : (s : Set) → ((v : ℕ) → Is (s v) → Good v) → (v : ℕ) → v < vertices th → Is (fired (pass_mode_among th marked cone never atom_never v) s (preds th everyone v)) → Good v
-        step s ih v b q = (
-          λ h. by_atom s ih v h (subst (λ (m : Mode). Is (fired m s (preds th everyone v))) (atom_among v h) q),
-          λ n e. by_node s ih n (subst (λ (m : Mode). Is (fired m s (preds th everyone (th.atoms + n)))) (node_among n)
-              (subst (λ (z : ℕ). Is (fired (pass_mode_among th marked cone never atom_never z) s (preds th everyone z))) e q)),
-        )
+    found_good = closure_induct (vertices th) (pass_mode_among th marked cone never atom_never) (preds th everyone) Good (λ s ih v b q. (
+      λ h. by_atom s ih v h (subst (λ (m : Mode). Is (fired m s (preds th everyone v))) (atom_among v h) q),
+      λ n e. by_node s ih n (at_node s v n e q),
+    ))
+
+    -- a node that is found is in the cone
+    found_cone : (n : ℕ) → Is (passed_among th marked cone never atom_never (th.atoms + n)) → Is (cone n)
+    unfolding node_mode_among
+    found_cone n p = closure_induct (vertices th) (pass_mode_among th marked cone never atom_never) (preds th everyone) (λ v. (m : ℕ) → v ≡ th.atoms + m → Is (cone m)) (λ s ih v b q m e.
+        let h = live_fired (ltb m th.nodes && cone m && not (never m)) (kind_mode (th.kind m) (marked (th.operand m)) (atom_never (th.operand m))) s (preds th everyone (th.atoms + m)) (at_node s v m e q) in
+        and_right (ltb m th.nodes) (cone m) (and_left (ltb m th.nodes && cone m) (not (never m)) h.0))
+        (th.atoms + n) p n refl
 
     -- ---- what is founded is found
 
@@ -198,7 +206,17 @@ module _ (th : Theory) (marked cone never atom_never : Set) where
                   (true_found s ih (suc n) n (ok.body_low d.by n d.by_low h) (enough.bodies d.by n b d.by_low d.head d.is_marked h) x)
 
     pub among_founded : (a : ℕ) → a < th.atoms → EnoughAmong th marked cone never atom_never → Is (passed_among th marked cone never atom_never a) ↔ Is (founded_among th marked never atom_never a)
-    among_founded a l enough = (found_founded a l, founded_found enough a)
+    unfolding Good
+    among_founded a l enough = (λ p. (found_good a p).0 l, founded_found enough a)
+
+    -- and of the nodes the true ones of the cone
+    pub among_true : (n : ℕ) → n < th.nodes → EnoughAmong th marked cone never atom_never
+        → Is (passed_among th marked cone never atom_never (th.atoms + n)) ↔ (Is (cone n) × Is (truth th never (atom_truth marked atom_never (founded_among th marked never atom_never)) n))
+    unfolding Good env truth
+    among_true n l enough = (
+      λ p. (found_cone n p, (found_good (th.atoms + n) p).1 n refl),
+      λ q. true_found enough (founded_among th marked never atom_never) (founded_found enough) (suc n) n l q.0 q.1,
+    )
 
 module _ (th : Theory) (cone never atom_never : Set) where
   pub mode_atom : (a : ℕ) → a < th.atoms → pass_mode th cone never atom_never a ≡ atom_mode th cone never atom_never a

@@ -18,6 +18,7 @@ pub mod Drive
 pub mod Closure
 pub mod Worklist
 pub mod Pass
+pub mod Work
 pub mod Components
 pub mod Search
 pub mod Prefix

@@ -5,8 +5,9 @@
 //! against edition 1 on the same content), `scale` (edition 2 against the
 //! Rust, up to its largest graph), `order` (the check of both editions with
 //! links in any order against plain Rust), `unfounded` (the pass with every atom
-//! marked against the pass) and `pairs` (two equal graphs of edition 1 compared,
-//! against one check); without `--part` all are run. With `--bars` it
+//! marked against the pass), `pairs` (two equal graphs of edition 1 compared,
+//! against one check) and `within` (the pass within an allowance against the pass);
+//! without `--part` all are run. With `--bars` it
 //! ends with 1 if a bar does not hold; with `--plot` it writes the picture of
 //! `narrow`, with `--plot-wide` that of `scale`; with `--graphs` there are so many
 //! graphs of each size of edition 1.
@@ -18,7 +19,7 @@ use bench::report::Bar;
 use bench::{caches, inputs, measure, plot, report};
 
 const USAGE: &str = "bench [--bars] [--plot FILE] [--plot-wide FILE] [--rounds COUNT] [--graphs COUNT] \
-                     [--part narrow|editions|scale|order|unfounded|pairs]";
+                     [--part narrow|editions|scale|order|unfounded|pairs|within]";
 
 struct Asked {
     bars: bool,
@@ -32,6 +33,7 @@ struct Asked {
 #[derive(Clone, Copy, PartialEq, Eq)]
 enum Part {
     Narrow,
+    Within,
     Editions,
     Scale,
     Order,
@@ -40,18 +42,20 @@ enum Part {
 }
 
 impl Part {
-    const ALL: [Self; 5] = [
+    const ALL: [Self; 7] = [
         Self::Narrow,
         Self::Editions,
         Self::Scale,
         Self::Order,
         Self::Unfounded,
         Self::Pairs,
+        Self::Within,
     ];
 
     fn of(word: &str) -> Option<Self> {
         match word {
             "narrow" => Some(Self::Narrow),
+            "within" => Some(Self::Within),
             "editions" => Some(Self::Editions),
             "scale" => Some(Self::Scale),
             "order" => Some(Self::Order),
@@ -76,6 +80,12 @@ impl Part {
                 println!("{}", report::befores(&measured));
                 draw(&asked.plot, &|| plot::svg(&measured))?;
                 Ok(report::bars(&measured))
+            }
+            Self::Within => {
+                let measured = measure::within(asked.graphs, asked.rounds);
+                println!("The pass within an allowance, against the pass\n");
+                println!("{}", report::within(&measured));
+                Ok(report::within_bars(&measured))
             }
             Self::Editions => {
                 let measured = measure::editions(asked.graphs, asked.rounds);

@@ -39,7 +39,7 @@ pub const THEORY: usize = Before::Theory as usize;
 /// Where edition 2 is held to edition 1.
 pub const EDITION_1: usize = 0;
 
-/// Where the pass with every atom marked is held to the pass.
+/// Where the pass with every atom marked, or within an allowance, is held to the pass.
 pub const PASS: usize = 0;
 
 /// Where the check is held to the plain one.
@@ -86,6 +86,20 @@ fn theirs<W: Word>(input: &Input<W>, call: Call) -> [Side<'_>; 3] {
                 start.elapsed()
             })
         })
+    })
+}
+
+/// The pass within the largest allowance.
+fn passes_within(input: &Input<u16>) -> Side<'_> {
+    let mut ours = Ours::new(&input.graphs[0]);
+    Box::new(move |number| {
+        let graph = black_box(&input.graphs[number]);
+        let mut allowance = u64::MAX;
+        let start = Instant::now();
+        let code = black_box(ours.within(graph, &mut allowance));
+        let taken = start.elapsed();
+        assert_eq!(code, 0, "a success");
+        taken
     })
 }
 
@@ -239,6 +253,18 @@ pub fn editions(graphs: Option<usize>, rounds: usize) -> Vec<Measured> {
     let clock = clock();
     let benches = wide.iter().zip(&narrow).flat_map(|(wide, narrow)| {
         Call::ALL.map(|call| Bench::new(wide, call, [ours(narrow, call)], clock))
+    });
+    run(benches.collect(), rounds)
+}
+
+/// The pass within an allowance on graphs of edition 1, held to the pass.
+pub fn within(graphs: Option<usize>, rounds: usize) -> Vec<Measured> {
+    let inputs = inputs::all::<u16>(graphs);
+    let clock = clock();
+    let benches = inputs.iter().map(|input| {
+        let mut bench = Bench::new(input, Call::Pass, [ours(input, Call::Pass)], clock);
+        bench.sides[0] = passes_within(input);
+        bench
     });
     run(benches.collect(), rounds)
 }

@@ -171,6 +171,34 @@ pub fn bars(measured: &[Measured]) -> Vec<Bar> {
     bars
 }
 
+/// The pass within an allowance by the pass: a row for each input.
+pub fn within(measured: &[Measured]) -> String {
+    let mut table =
+        String::from("| A = N = P | loops | µs | the pass, µs | ratio |\n|---|---|---|---|---|\n");
+    for cell in measured {
+        let other = &cell.others[PASS];
+        let [ours, pass] = [cell.ours, other.best].map(|time| time / 1_000.0);
+        let loops = if cell.loops { "yes" } else { "no" };
+        let _ = writeln!(
+            table,
+            "| {} | {loops} | {ours:.1} | {pass:.1} | {} |",
+            thousands(cell.size),
+            spread(other.ratios)
+        );
+    }
+    table
+}
+
+/// It takes at most 1.15 times as long.
+pub fn within_bars(measured: &[Measured]) -> Vec<Bar> {
+    let bars = measured.iter().map(|cell| Bar {
+        what: format!("{} within an allowance: by the pass", name(cell)),
+        figure: cell.others[PASS].ratios[1],
+        most: 1.15,
+    });
+    bars.collect()
+}
+
 /// Edition 2 by edition 1: every call on the largest graph takes at most 1.3
 /// times as long.
 pub fn edition_bars(measured: &[Measured]) -> Vec<Bar> {

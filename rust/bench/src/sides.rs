@@ -1,5 +1,6 @@
 //! One call on each side, with all that it needs inside.
 
+use founded::raw;
 use oracle::{Lists, Oracle};
 
 use crate::plain;
@@ -93,6 +94,30 @@ impl<W: Word> Ours<W> {
             _ if code != 0 => panic!("refused: {code:#x}"),
             Call::LoopTest | Call::Check => Answer::Accepted,
             Call::Preparation | Call::Pass | Call::Unfounded => Answer::Atoms(self.output.clone()),
+        }
+    }
+}
+
+impl Ours<u16> {
+    /// The pass within an allowance, which falls by the count.
+    pub fn within(&mut self, graph: &[u16], allowance: &mut u64) -> u32 {
+        let (output, work) = (&mut self.output, &mut self.work);
+        // Safety: every pointer and length is that of a slice, and no two that
+        // are written overlap.
+        unsafe {
+            raw::founded_complete_within(
+                graph.as_ptr(),
+                graph.len(),
+                self.clear.as_ptr(),
+                self.clear.len(),
+                self.clear.as_ptr(),
+                self.clear.len(),
+                output.as_mut_ptr(),
+                output.len(),
+                work.as_mut_ptr(),
+                work.len(),
+                allowance,
+            )
         }
     }
 }

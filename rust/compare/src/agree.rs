@@ -9,6 +9,7 @@ use paper::{Graph, Prepared, Refusal};
 use crate::calls::{Calls, Word, widened};
 use crate::content::laid_out;
 use crate::ours::{Lengths, Made, NUMBERS, Ours};
+use crate::within;
 
 /// The node mask, then the atom mask.
 pub type Masks = (Vec<u64>, Vec<u64>);
@@ -53,6 +54,10 @@ pub struct Tally {
     /// other edition are not tried again.
     pub grouped: u64,
     pub sets: u64,
+    /// Passes within an allowance, in edition 1 alone: counts found, and those that reach
+    /// their bound.
+    pub counts: u64,
+    pub reached: u64,
     /// What was asked of the proved calls.
     pub ours: Made,
 }
@@ -70,6 +75,8 @@ impl Tally {
         self.missing += other.missing;
         self.grouped += other.grouped;
         self.sets += other.sets;
+        self.counts += other.counts;
+        self.reached += other.reached;
         self.ours.add(&other.ours);
     }
 
@@ -153,12 +160,12 @@ impl<W: Word> Side<W> {
 
 /// What original and document answer alike on an accepted graph.
 pub struct Answers {
-    graph: Graph,
+    pub(crate) graph: Graph,
     loops: bool,
     /// The cyclic atoms, or 12.
     marked: Result<Vec<u64>, Refusal>,
     /// The missing list for each pair of masks; with 12 there is none.
-    missing: Vec<Vec<u64>>,
+    pub(crate) missing: Vec<Vec<u64>>,
     /// The same of request 6's list, which the document alone answers, in edition 1.
     unfounded: Vec<Vec<u64>>,
 }
@@ -209,6 +216,7 @@ pub fn compare_both(
         // Edition 2's limits may let it pass.
         return compare(&same, &clear_masks(&same), wide).map(|_| ());
     };
+    within::compare(words, masks, &answers, narrow)?;
     let graph = &answers.graph;
     equal_content(&same, masks, &answers, wide)?;
     if usize::from(words[4]) != graph.leaf_entries() + graph.head_entries() {
@@ -236,6 +244,7 @@ pub fn compare_renumbered(
     };
     for words in numberings {
         equal_content(words, masks, &answers, narrow)?;
+        within::compare(words, masks, &answers, narrow)?;
         equal_content(&widened(words), masks, &answers, wide)?;
     }
     Ok(())
@@ -445,6 +454,14 @@ fn refused<W: Word>(refusal: &Refusal, ours: &mut Ours<W>) -> Result<(), String>
     ours.prepare(lengths, Err(refusal))?;
     ours.complete(&[!0], &[1, 0], lengths, Err(refusal))?;
     ours.unfounded(&[!0], &[1, 0], lengths, Err(refusal))?;
+    for allowance in [0, 9] {
+        ours.within(
+            (&[!0], &[1, 0]),
+            lengths,
+            (allowance, allowance),
+            Err(refusal),
+        )?;
+    }
     ours.unchanged()
 }
 

@@ -31,6 +31,21 @@ pub fn word<W: Word>(number: usize) -> W {
     word
 }
 
+/// The pass within an allowance: after the work area the allowance.
+pub type Within<W> = unsafe extern "C" fn(
+    *const W,
+    usize,
+    *const u64,
+    usize,
+    *const u64,
+    usize,
+    *mut u64,
+    usize,
+    *mut W,
+    usize,
+    *mut u64,
+) -> <W as Word>::Code;
+
 /// The calls on words of one width.
 #[derive(Clone, Copy)]
 pub struct Calls<W: Word> {
@@ -42,6 +57,8 @@ pub struct Calls<W: Word> {
     pub complete: Pass<W>,
     /// Request 6's call, in edition 1 alone.
     pub unfounded: Option<Pass<W>>,
+    /// Request 8's call, in edition 1 alone.
+    pub within: Option<Within<W>>,
 }
 
 /// Graph, node mask, atom mask, output, work area.
@@ -70,6 +87,7 @@ impl Word for u16 {
         prepare: raw::founded_prepare,
         complete: raw::founded_complete,
         unfounded: Some(raw::founded_unfounded),
+        within: Some(raw::founded_complete_within),
     };
 
     fn cut(bits: u64) -> Self {
@@ -101,6 +119,7 @@ impl Word for u32 {
         prepare: raw::founded_wide_prepare,
         complete: raw::founded_wide_complete,
         unfounded: None,
+        within: None,
     };
 
     fn cut(bits: u64) -> Self {

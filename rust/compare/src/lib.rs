@@ -5,6 +5,7 @@
 //! - [`calls`]: the words of either width, and the calls on them;
 //! - [`agree`]: one graph compared, with its masks;
 //! - [`ours`]: the proved calls, with the memory lent to them watched;
+//! - [`within`]: one graph's passes within an allowance;
 //! - [`runs`]: whole families of graphs compared;
 //! - [`recut`]: what request 7 promises, over runs of the proved calls;
 //! - [`pairs`]: two graphs, by the order of request 14;
@@ -26,3 +27,4 @@ pub mod recut;
 pub mod rng;
 pub mod runs;
 pub mod tiny;
+pub mod within;

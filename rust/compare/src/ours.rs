@@ -12,7 +12,7 @@ use crate::calls::{Calls, Pass, Word};
 use crate::rng::Rng;
 
 /// The numbers of refusals are below this.
-pub const NUMBERS: usize = 15;
+pub const NUMBERS: usize = 16;
 
 /// How often each call was made, and how often one was turned away, by number.
 #[derive(Clone, Copy, Debug, Default, PartialEq, Eq)]
@@ -25,6 +25,7 @@ pub struct Made {
     pub complete: u64,
     /// Not in edition 2.
     pub unfounded: u64,
+    pub within: u64,
     pub refused: [u64; NUMBERS],
 }
 
@@ -36,13 +37,15 @@ impl Made {
         self.prepare += other.prepare;
         self.complete += other.complete;
         self.unfounded += other.unfounded;
+        self.within += other.within;
         for (number, count) in other.refused.iter().enumerate() {
             self.refused[number] += count;
         }
     }
 
     pub fn all(&self) -> u64 {
-        self.check + self.work_words + self.needed + self.prepare + self.complete + self.unfounded
+        let passes = self.complete + self.unfounded + self.within;
+        self.check + self.work_words + self.needed + self.prepare + passes
     }
 }
 
@@ -186,6 +189,7 @@ pub struct Ours<W: Word> {
     never: Lent<u64>,
     atom_never: Lent<u64>,
     output: Lent<u64>,
+    allowance: Lent<u64>,
     work: Work<W>,
     pub made: Made,
 }
@@ -218,6 +222,7 @@ impl<W: Word> Ours<W> {
             never: Lent::new(masks),
             atom_never: Lent::new(masks),
             output: Lent::new(masks),
+            allowance: Lent::new(masks),
             work: Work::new(words, rng),
             made: Made::default(),
         }
@@ -356,6 +361,57 @@ impl<W: Word> Ours<W> {
         self.work_left(name, expected.err())
     }
 
+    /// With an allowance, and what must be left of it. Nothing in an edition that has
+    /// no such call.
+    ///
+    /// # Errors
+    /// As [`Self::check`].
+    pub fn within(
+        &mut self,
+        (never, atom_never): (&[u64], &[u64]),
+        lengths: Lengths,
+        (allowance, left): (u64, u64),
+        expected: Result<&[u64], &Refusal>,
+    ) -> Result<(), String> {
+        let Some(within) = self.calls.within else {
+            return Ok(());
+        };
+        self.made.within += 1;
+        self.never.lend(never.iter().copied());
+        self.atom_never.lend(atom_never.iter().copied());
+        self.lend_output(lengths.output);
+        self.allowance.lend([allowance].into_iter());
+        let (graph, graph_len) = (self.graph.start(), self.graph.len());
+        let (output, area) = (self.output.start(), self.work.lend(lengths.work));
+        // Safety: each slice lies within a buffer of its own.
+        let found = unsafe {
+            within(
+                graph,
+                graph_len,
+                self.never.start(),
+                never.len(),
+                self.atom_never.start(),
+                atom_never.len(),
+                output,
+                lengths.output,
+                area,
+                lengths.work,
+                self.allowance.start(),
+            )
+        };
+        self.answered("complete_within", found, expected.map(|_| 0))?;
+        self.read_only("complete_within")?;
+        self.output_left("complete_within", expected)?;
+        self.allowance.written(&[left]);
+        if !self.allowance.holds() {
+            let found = &self.allowance.buffer[self.allowance.slice()];
+            return Err(format!(
+                "our complete_within's allowance of {allowance} or what is beside it: {found:?}, document {left}"
+            ));
+        }
+        self.work_left("complete_within", expected.err())
+    }
+
     /// The output, filled with wild words that differ from call to call.
     fn lend_output(&mut self, length: usize) {
         let mut rng = Rng::new(self.made.all());
@@ -414,7 +470,7 @@ impl<W: Word> Ours<W> {
 
     fn work_left(&mut self, call: &str, refused: Option<&Refusal>) -> Result<(), String> {
         let (due, held) = match refused.map_or(0, |refusal| refusal.number) {
-            0 | 12 => ("all zero", self.work.was_cleared()),
+            0 | 12 | 15 => ("all zero", self.work.was_cleared()),
             // Left to `unchanged`.
             1..=9 | 14 => return Ok(()),
             _ => ("unchanged", self.work.unchanged()),

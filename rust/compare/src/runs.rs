@@ -10,7 +10,7 @@ use crate::random::{SCALES, Scale};
 use crate::recut::{Recut, Search};
 use crate::rng::Rng;
 use crate::tiny::Sizes;
-use crate::{damage, edges, random, tiny};
+use crate::{damage, edges, random, tiny, within};
 
 /// What was compared, in edition 1 and in edition 2.
 pub type Compared = Result<[Tally; 2], Box<Difference>>;
@@ -46,6 +46,7 @@ fn both(lengths: Lengths, each: impl FnOnce(&mut dyn FnMut(&[u16], &[Masks]))) -
         compare_both(words, masks, &mut narrow, &mut wide)?;
         if lengths == Lengths::WrongToo {
             wrong_lengths(words, &mut narrow.ours)?;
+            within::wrong_lengths(words, &mut narrow.ours)?;
             wrong_lengths(&widened(words), &mut wide.ours)?;
         }
         Ok(())

@@ -25,12 +25,13 @@ struct Lent<W: Word> {
     atom_never: Vec<u64>,
     output: Vec<u64>,
     work: Vec<W>,
+    allowance: u64,
     made: bool,
 }
 
 /// Check, loop test, preparation, pass; the pass with every atom marked in edition 1,
-/// the length of the work area in edition 2.
-const CALLS: usize = 5;
+/// the length of the work area in edition 2; the pass within an allowance in edition 1.
+const CALLS: usize = 6;
 
 impl<W: Word> Lent<W> {
     fn new(graph: &[W]) -> Self {
@@ -43,6 +44,7 @@ impl<W: Word> Lent<W> {
             atom_never: mask(graph[1]),
             output: mask(graph[1]),
             work: vec![word(0); paper::work_words(graph)],
+            allowance: 0,
             made: false,
         }
     }
@@ -80,8 +82,27 @@ unsafe extern "C" fn make<W: Word>(lent: *mut Lent<W>) {
                     work_len,
                 );
             }
-            _ => match lent.calls.work_words {
+            4 => match lent.calls.work_words {
                 Some(work_words) => _ = work_words(graph, len),
+                None => lent.made = false,
+            },
+            _ => match lent.calls.within {
+                Some(within) => {
+                    lent.allowance = u64::MAX;
+                    _ = within(
+                        graph,
+                        len,
+                        lent.never.as_ptr(),
+                        lent.never.len(),
+                        lent.atom_never.as_ptr(),
+                        lent.atom_never.len(),
+                        output,
+                        output_len,
+                        work,
+                        work_len,
+                        &raw mut lent.allowance,
+                    );
+                }
                 None => lent.made = false,
             },
         }
@@ -160,6 +181,22 @@ mod nothing {
     ) -> W::Code {
         W::code(0, 0)
     }
+    #[allow(clippy::too_many_arguments)]
+    pub unsafe extern "C" fn within<W: Word>(
+        _: *const W,
+        _: usize,
+        _: *const u64,
+        _: usize,
+        _: *const u64,
+        _: usize,
+        _: *mut u64,
+        _: usize,
+        _: *mut W,
+        _: usize,
+        _: *mut u64,
+    ) -> W::Code {
+        W::code(0, 0)
+    }
 }
 
 fn nothing<W: Word>() -> Calls<W> {
@@ -170,6 +207,7 @@ fn nothing<W: Word>() -> Calls<W> {
         prepare: nothing::prepare,
         complete: nothing::complete,
         unfounded: W::ARCHIVE.unfounded.map(|_| nothing::complete as _),
+        within: W::ARCHIVE.within.map(|_| nothing::within as _),
     }
 }
 
@@ -191,7 +229,7 @@ fn most<W: Word>(graphs: &[Vec<W>]) -> [usize; CALLS] {
 }
 
 /// C1 to C12, among them refusals; then small graphs and large ones of one shape.
-fn measured<W: Word>() {
+fn measured<W: Word>(calls: usize) {
     let cases: Vec<Vec<W>> = cases::all()
         .iter()
         .map(|case| {
@@ -206,10 +244,11 @@ fn measured<W: Word>() {
         *most = large.max(*most);
     }
     println!(
-        "edition {}, bytes of check, loop test, preparation, pass, unfounded or work_words: {all:?}",
+        "edition {}, bytes of check, loop test, preparation, pass, unfounded or work_words, within: {all:?}",
         W::EDITION.number
     );
     assert_eq!(small, large, "the same whatever the size");
+    let all = &all[..calls];
     assert!(all.iter().all(|&bytes| bytes <= MOST), "{all:?}");
     // Each takes some: the measurement sees it.
     assert!(all.iter().all(|&bytes| bytes >= 32), "{all:?}");
@@ -217,6 +256,6 @@ fn measured<W: Word>() {
 
 #[test]
 fn a_call_takes_a_few_hundred_bytes_of_stack() {
-    measured::<u16>();
-    measured::<u32>();
+    measured::<u16>(6);
+    measured::<u32>(5);
 }

@@ -2,7 +2,7 @@
 
 use std::cmp::Ordering;
 
-use crate::{Refusal, Word, chains, raw};
+use crate::{Meter, Refusal, Word, chains, raw};
 
 /// The length of the work area in edition 1, in 16-bit words. In edition 2 it depends on the graph: [`wide::work_words`].
 pub const WORK_WORDS: usize = 32_768;
@@ -127,6 +127,37 @@ pub fn compare(graph: &[u16], other: &[u16]) -> Result<Ordering, Refusal> {
             code.into(),
         )),
     }
+}
+
+/// The pass within a work allowance, in edition 1: as [`complete`](narrow::complete), and the meter's remainder falls by the count. It counts as it goes and stops as soon as the count would
+/// exceed the allowance. A refusal leaves output and meter as they were, but that 15 leaves nothing on the meter; 12 and 15 leave the work area all zero.
+///
+/// # Errors
+/// The first of 1 to 12 and 14 that applies, and 15 after them.
+pub fn complete_within(
+    graph: &[u16],
+    never: &[u64],
+    atom_never: &[u64],
+    output: &mut [u64],
+    work: &mut [u16],
+    meter: &mut Meter,
+) -> Result<(), Refusal> {
+    // SAFETY: as in `prepare`; the allowance is a number of its own, borrowed for this call alone.
+    answer(graph, unsafe {
+        raw::founded_complete_within(
+            graph.as_ptr(),
+            graph.len(),
+            never.as_ptr(),
+            never.len(),
+            atom_never.as_ptr(),
+            atom_never.len(),
+            output.as_mut_ptr(),
+            output.len(),
+            work.as_mut_ptr(),
+            work.len(),
+            meter.allowance(),
+        )
+    })
 }
 
 /// The four calls by name, for words of one type.

@@ -90,12 +90,42 @@
 //! # Ok::<(), founded::Refusal>(())
 //! ```
 //!
+//! # A work allowance
+//!
+//! Where there is a limit on the work of each cycle, [`Solver::complete_within`] runs a pass against a [`Meter`], in edition 1. What is counted is one for each founded atom and each true node, and one
+//! for each entry followed from them. The pass stops as soon as the count would exceed what is left:
+//!
+//! ```
+//! use founded::{AtomMask, Meter, Node, NodeMask, Refusal, Solver, Theory};
+//!
+//! // Heater and latch hold each other up, and the heater is switched on as a fact.
+//! let mut theory = Theory::new();
+//! let (heater, latch) = (theory.add_atom()?, theory.add_atom()?);
+//! let heater_on = theory.add_node(Node::Atom(heater))?;
+//! let latch_set = theory.add_node(Node::Atom(latch))?;
+//! theory.add_producer(latch_set, &[heater])?;
+//! theory.add_producer(heater_on, &[latch])?;
+//! theory.add_fact(&[heater])?;
+//! let graph = theory.build()?;
+//!
+//! let (never, atom_never) = (NodeMask::none(&graph), AtomMask::none(&graph));
+//! let (mut solver, mut meter) = (Solver::new(), Meter::new(20));
+//! // The fact's head; two atoms and two nodes; a node that names each atom, a head of each node.
+//! assert!(solver.complete_within(&graph, &never, &atom_never, &mut meter)?.is_empty());
+//! assert_eq!(meter.remainder(), 20 - 9);
+//! solver.complete_within(&graph, &never, &atom_never, &mut meter)?;
+//! let refused = solver.complete_within(&graph, &never, &atom_never, &mut meter);
+//! assert_eq!((refused.err(), meter.remainder()), (Some(Refusal::Allowance), 0));
+//! # Ok::<(), founded::Error>(())
+//! ```
+//!
 //! # What there is
 //!
 //! - [`Theory`] builds a graph, [`Graph`] or [`WideGraph`] holds the words of one that the proved check has accepted. [`GraphOf::from_words`] takes words from outside. [`Graph::widen`] goes from edition 1 to edition 2.
 //! - [`Solver`] owns the work area and the output and runs the loop test, the preparation and the pass, and on a [`Graph`] the pass with every atom marked ([`Solver::unfounded`]).
 //! - [`check`], [`needed`], [`prepare`] and [`complete`], here and in [`wide`], are the four calls over plain slices, for callers that keep their own memory.
 //! - [`compare`] is one order for graphs of edition 1, by content, whatever the links' numbering. [`Graph`] is `Ord` by it.
+//! - [`complete_within`] is the pass within an allowance, with a [`Meter`].
 //! - [`raw`] has them as the archive does.
 //! - A call is turned away by a [`Refusal`], with the number and place of docs/FORMAT.md's table.
 //! - A call's list is shown as [`Atoms`] until the next call; [`Atoms::to_list`] keeps it.
@@ -114,6 +144,7 @@ mod graph;
 mod ids;
 mod list;
 mod mask;
+mod meter;
 pub mod raw;
 mod refusal;
 pub mod rules;
@@ -122,11 +153,12 @@ mod theory;
 mod word;
 
 pub use calls::narrow::{check, compare, complete, needed, prepare, unfounded};
-pub use calls::{WORK_WORDS, mask_words, wide};
+pub use calls::{WORK_WORDS, complete_within, mask_words, wide};
 pub use error::Error;
 pub use graph::{Graph, GraphOf, WideGraph};
 pub use list::{AtomList, AtomsIter};
 pub use mask::{AtomMask, Atoms, Cut, Mask, NodeMask};
+pub use meter::Meter;
 pub use refusal::{Chain, Refusal};
 pub use solver::Solver;
 pub use theory::{AtomId, Node, NodeId, Producer, ProducerId, Theory};

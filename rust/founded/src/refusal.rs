@@ -32,6 +32,8 @@ pub enum Refusal {
     Work,
     /// 12: the body cone holds an absorbed node. The first such node.
     Absorbed(NodeId),
+    /// 15, of a pass within an allowance alone: its count exceeds the allowance. It stands after 12.
+    Allowance,
     /// 14: a chain comes back to one of its own links. The first node whose leaf chain does, or where none does, the first producer whose head chain does. A call's code
     /// does not say which of the two; a walk along the node's chain does.
     ComesBack(Chain),
@@ -62,6 +64,7 @@ impl Refusal {
             10 => Self::Lengths,
             11 => Self::Work,
             12 => Self::Absorbed(NodeId(place)),
+            15 => Self::Allowance,
             _ => return None,
         })
     }
@@ -82,6 +85,7 @@ impl Refusal {
             Self::Lengths => 10,
             Self::Work => 11,
             Self::Absorbed(_) => 12,
+            Self::Allowance => 15,
             Self::ComesBack(_) => 14,
         }
     }
@@ -103,7 +107,8 @@ impl Refusal {
             | Self::Size
             | Self::Entries
             | Self::Lengths
-            | Self::Work => 0,
+            | Self::Work
+            | Self::Allowance => 0,
         }
     }
 
@@ -132,6 +137,7 @@ impl Refusal {
                 "not exactly 32,768 16-bit words (edition 2: 16·(A + N + P + 1) + 4·(leaf entries + head entries) 32-bit words)"
             }
             Self::Absorbed(_) => "the body cone holds a node of kind 7",
+            Self::Allowance => "the count exceeds the allowance",
             Self::ComesBack(Chain::Node(_)) => {
                 "the leaf chain of this node comes back to one of its own links"
             }

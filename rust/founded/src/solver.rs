@@ -1,4 +1,4 @@
-use crate::{AtomMask, Atoms, GraphOf, NodeMask, Refusal, Word, calls};
+use crate::{AtomMask, Atoms, Graph, GraphOf, Meter, NodeMask, Refusal, Word, calls};
 
 /// The work area and the output that the calls are lent, kept from call to call; they grow to what the largest graph so far asks for. Nothing else is kept: each answer
 /// depends on the arguments alone. A solver is for graphs of one edition: `Solver<u16>`, or `Solver<u32>` for wide graphs; after `Solver::new()` the compiler
@@ -100,6 +100,29 @@ impl Solver<u16> {
             atom_never.words(),
             output,
             work,
+        )?;
+        Ok(Atoms::of(output))
+    }
+
+    /// The pass within a work allowance: the missing atoms, and the meter's remainder falls by the count of the pass.
+    ///
+    /// # Errors
+    /// [`Refusal::Allowance`] if the count exceeds the allowance, which then has nothing left; and those of [`complete`](Self::complete), which leave the meter as it was.
+    pub fn complete_within(
+        &mut self,
+        graph: &Graph,
+        never: &NodeMask,
+        atom_never: &AtomMask,
+        meter: &mut Meter,
+    ) -> Result<Atoms<'_>, Refusal> {
+        let (output, work) = self.lent(graph);
+        calls::complete_within(
+            graph.words(),
+            never.words(),
+            atom_never.words(),
+            output,
+            work,
+            meter,
         )?;
         Ok(Atoms::of(output))
     }

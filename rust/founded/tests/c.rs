@@ -101,6 +101,19 @@ comes back: 14 0
     assert_eq!(printed("compare"), said);
 }
 
+#[test]
+fn within() {
+    let said = "ten: done 0, output 0, left 1
+nine: done 0, output 0, left 0
+eight: too little 0, output 77, left 0
+nothing: too little 0, output 77, left 0
+most: done 0, output 0, left 18446744073709551606
+heater cut: done 0, output 2, left 4
+absorbed: refused 1, output 77, left 0
+";
+    assert_eq!(printed("within"), said);
+}
+
 /// Whether a C or C++ function that gives this value compiles.
 fn compiles(compiler_name: &str, file: &str, value: &str) -> bool {
     let path = made(file);

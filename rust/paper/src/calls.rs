@@ -99,3 +99,37 @@ fn listed<W: Word>(
     work_area::<W>(work_len, &graph)?;
     Ok(pack(&list(&graph.prepared()?)))
 }
+
+/// What the pass within an allowance answers, and what is left of the allowance.
+pub struct Within {
+    pub answer: Result<Vec<u64>, Refusal>,
+    pub left: u64,
+}
+
+/// The pass within a work allowance (document 02, request 8): as the pass, then 15,
+/// the count exceeds the allowance, after 12. The allowance falls by the count on
+/// success and reads 0 after 15; an earlier refusal doesn't touch it.
+pub fn complete_within<W: Word>(
+    words: &[W],
+    never: &[u64],
+    atom_never: &[u64],
+    output_len: usize,
+    work_len: usize,
+    allowance: u64,
+) -> Within {
+    let answer = complete(words, never, atom_never, output_len, work_len);
+    let count = |graph: &Graph| graph.prepared().expect("no 12").work(never, atom_never);
+    match (&answer, Graph::decode(words)) {
+        (Ok(_), Ok(graph)) => match allowance.checked_sub(count(&graph)) {
+            Some(left) => Within { answer, left },
+            None => Within {
+                answer: Err(Refusal::at(15, 0)),
+                left: 0,
+            },
+        },
+        _ => Within {
+            answer,
+            left: allowance,
+        },
+    }
+}

@@ -1,4 +1,4 @@
-//! Document 01, and requests 5, 6, 9 and 14 of document 02, in slow, plain Rust, written
+//! Document 01, and requests 5, 6, 8, 9 and 14 of document 02, in slow, plain Rust, written
 //! from their text alone.
 //!
 //! - [`Edition`], [`Word`]: what an edition has of its own; 16-bit words are of
@@ -6,6 +6,7 @@
 //! - [`check`]: the refusal table's rows 1 to 9 and 14;
 //! - [`needed`], [`prepare`], [`complete`], [`unfounded`]: the calls, with rows 10
 //!   to 12;
+//! - [`complete_within`]: the pass within a work allowance, with row 15;
 //! - [`work_words`]: the length that row 11 asks for;
 //! - [`compare`]: one order for graphs, by content;
 //! - [`program`]: standard input's bytes to the program's text;
@@ -24,8 +25,9 @@ mod order;
 pub mod program;
 mod table;
 mod truth;
+mod work;
 
-pub use calls::{complete, needed, prepare, unfounded, work_words};
+pub use calls::{Within, complete, complete_within, needed, prepare, unfounded, work_words};
 pub use edition::{EDITION_1, EDITION_2, Edition, WORK_WORDS, Word};
 pub use graph::{Graph, Kind, Node, Rule};
 pub use meaning::{Prepared, Rows, marked_by_components};

@@ -1,0 +1,4 @@
+pub mod PayLaws
+pub mod QueueLaws
+pub mod PassWithinLaws
+pub mod CallWithinLaws
