@@ -1,0 +1,4 @@
+pub mod UnderLaws
+pub mod ChoiceLaws
+pub mod UndecidedLaws
+pub mod TallyLaws
