@@ -1,5 +1,5 @@
 -- What success writes: the set that the flags of a part of the words stand for (`part_pack`, `flags_pack`); and the bits of the packed
--- cyclic and missing sets (`cyclic_list`, `missing_list`).
+-- cyclic and missing sets (`cyclic_list`, `missing_list`), and of any packed set of atoms (`set_list`).
 use mathlib.Core.Path.{◌≡◌, refl, sym, ap, ◌∙◌, fun_ext}
 use mathlib.Core.Logic.{◌⊎◌, inl, inr}
 use mathlib.Core.Bool.{Bool, true, false, ◌&&◌, cond}

@@ -33,14 +33,14 @@ impl From<Refusal> for CallError {
 }
 
 // Whether a mask is longer than one over so many numbers. A shorter one is fine: a bit past its end is no cut (`mask::bit`).
-fn bad_mask(count: usize, words: usize) -> bool
+pub fn bad_mask(count: usize, words: usize) -> bool
     ensures { result ≡ bad_mask count words }
 {
     mask::words(count) < words
 }
 
 // Whether an output has another length than a mask over so many numbers.
-fn bad_output(count: usize, words: usize) -> bool
+pub fn bad_output(count: usize, words: usize) -> bool
     ensures { result ≡ bad_output count words }
 {
     words != mask::words(count)

@@ -1,0 +1,5 @@
+pub mod ShutLaws
+pub mod ListLaws
+pub mod LengthLaws
+pub mod CallLaws
+pub mod PlaceLaws
