@@ -6,7 +6,7 @@
  * Each call is proved to end and to keep the promises below whatever the words hold. The proof takes for granted that the caller lends memory as follows, for
  * C checks none of it:
  * - Each pointer is valid for as many elements as the length after it says, is aligned to its type, and is not null, also where the length is 0.
- * - A buffer that is written (output, work) overlaps no other buffer of the call. Those that are only read (graph, other, never, atom_never) may overlap each other.
+ * - A buffer that is written (output, always, sometimes, work) overlaps no other buffer of the call. Those that are only read (graph, other, never, atom_never, open, atom_open) may overlap each other.
  * - Nobody else writes to any of them, or reads one that is written, while the call runs.
  * Nothing is remembered between calls, and so threads may call at once, each with its own output and work area.
  *
@@ -14,19 +14,19 @@
  * body + 1 (0 marks a fact), first link; K links of value, next, in any order. Atoms, nodes and producers are numbered from 0, links from 1; link 0 ends a chain.
  * docs/FORMAT.md has the layout, the rules and graphs worked by hand. (The program founded_support takes the atom mask before the node mask; founded_complete takes the node mask first.)
  *
- * Lengths that pass: graph 5 + 3N + 2P + 2K words; never (the node mask) up to FOUNDED_MASK_WORDS(N); atom_never (the atom mask) up to FOUNDED_MASK_WORDS(A); output
- * FOUNDED_MASK_WORDS(A); work FOUNDED_WORK_WORDS in edition 1, and in edition 2 what founded_wide_work_words gives for the graph. Every other length is an answer: 1 or 3
+ * Lengths that pass: graph 5 + 3N + 2P + 2K words; never (the node mask) and open up to FOUNDED_MASK_WORDS(N); atom_never (the atom mask) and atom_open up to
+ * FOUNDED_MASK_WORDS(A); output, always and sometimes FOUNDED_MASK_WORDS(A); work FOUNDED_WORK_WORDS in edition 1, and in edition 2 what founded_wide_work_words gives for the graph. Every other length is an answer: 1 or 3
  * of the graph, 10 of masks and output, 11 of the work area.
  * Bit i of word w of a mask, lowest first, stands for 64w + i. A set bit is a cut: ruled out. A bit past the mask's end is no cut: trailing zero words may be left out,
  * all of them too. Bits past the last number are ignored where they are read and 0 where they are written.
  *
  * A refusal's code is number * 2^16 + place in 32 bits, and of a wide call number * 2^32 + place in 64 bits: FOUNDED_NUMBER and FOUNDED_PLACE take the one apart,
  * FOUNDED_WIDE_NUMBER and FOUNDED_WIDE_PLACE the other. Of several refusals that apply the first in the table's order is given: that of the numbers, but 14 stands
- * between 6 and 7. What a call leaves:
+ * between 6 and 7, and 21 between 10 and 11. What a call leaves:
  *
  *   outcome         output                  work area
  *   success         the list, each word     all zero
- *   1 to 11, 14     as it was               as it was
+ *   1 to 11, 14, 21 as it was               as it was
  *   12, 15          as it was               all zero
  *
  * What output and work area held before has no effect. Graph and masks are never written.
@@ -79,7 +79,8 @@ enum founded_refusal {
     FOUNDED_ABSORBED = 12, /* the body cone holds a node of kind 7. Place: the first such node */
     FOUNDED_COMES_BACK = 14, /* a chain comes back to one of its own links; given after 6 and before 7. Place: the first node whose leaf chain does, or where none does,
                               the first producer whose head chain does. The code does not say which: it is a node if that node's chain has not ended after K links */
-    FOUNDED_ALLOWANCE = 15 /* founded_complete_within alone: the count exceeds the allowance; given after 12 */
+    FOUNDED_ALLOWANCE = 15, /* founded_complete_within alone: the count exceeds the allowance; given after 12 */
+    FOUNDED_CUT_AND_OPEN = 21 /* founded_undecided alone: a node or an atom both ruled out and undecided; given right after 10 */
 };
 
 #ifdef __cplusplus
@@ -139,6 +140,14 @@ uint32_t founded_compare(const uint16_t *graph, size_t graph_len, const uint16_t
  * start are not counted: README.md says how long they take. */
 uint32_t founded_complete_within(const uint16_t *graph, size_t graph_len, const uint64_t *never, size_t never_len, const uint64_t *atom_never,
                                  size_t atom_never_len, uint64_t *output, size_t output_len, uint16_t *work, size_t work_len, uint64_t *allowance);
+
+/* Telemetry not yet in. Beside each mask comes one of undecided bits, of the same length: open beside never, atom_open beside atom_never. A choice rules each undecided node and each
+ * undecided atom out, or does not. The call answers 0, and always lists the atoms missing under every choice, sometimes those missing under at least one; or the code of a refusal of
+ * 1 to 12, 14 or 21. An atom that is undecided itself may be in the second list and never in the first. With nothing undecided both are the list of founded_complete. It takes little more than two
+ * passes, however many bits are undecided. On graphs of edition 1 alone. */
+uint32_t founded_undecided(const uint16_t *graph, size_t graph_len, const uint64_t *never, size_t never_len, const uint64_t *atom_never,
+                           size_t atom_never_len, const uint64_t *open, size_t open_len, const uint64_t *atom_open, size_t atom_open_len, uint64_t *always,
+                           size_t always_len, uint64_t *sometimes, size_t sometimes_len, uint16_t *work, size_t work_len);
 
 #ifdef __cplusplus
 }

@@ -12,6 +12,7 @@ use Rattle.cycles.specs.Outcome.{Outcome, refused, loops, refusal, outcome, work
 use Rattle.founded.specs.Answers.{prepare_answer, complete_answer, PrepareLeaves, CompleteLeaves}
 use Rattle.unfounded.specs.Unproduced.{UnfoundedLeaves}
 use Rattle.within.specs.WithinAnswers.{within_answer, work_of, WithinLeaves}
+use Rattle.undecided.specs.Answers.{undecided_answer, UndecidedLeaves}
 
 -- the number of the refusal in the high half and its place in the low one; success is 0
 abbrev pub code_of : (lim : ℕ) → Answer → ℕ
@@ -70,6 +71,11 @@ module _ (lim : ℕ) (ed : Edition) where
   pub record CompletedWithinAs (graph never atom_never output work : List ℕ) (allowance : ℕ) (output' work' : List ℕ) (left r : ℕ) : Type 0 where
     pub told : Tells lim (within_answer ed graph (length never) (length atom_never) (length output) (length work) allowance (work_of graph never atom_never)) r
     pub leaves : WithinLeaves graph never atom_never output work allowance output' work' left (within_answer ed graph (length never) (length atom_never) (length output) (length work) allowance (work_of graph never atom_never)).number
+
+-- the call over all choices of undecided bits, of edition 1 alone
+pub record UndecidedAs (lim : ℕ) (graph never atom_never open_nodes open_atoms always sometimes work always' sometimes' work' : List ℕ) (r : ℕ) : Type 0 where
+  pub told : Tells lim (undecided_answer graph never atom_never open_nodes open_atoms (length always) (length sometimes) (length work)) r
+  pub leaves : UndecidedLeaves graph never atom_never open_nodes open_atoms always sometimes work always' sometimes' work' (undecided_answer graph never atom_never open_nodes open_atoms (length always) (length sometimes) (length work)).number
 
 -- how many words the work area of an accepted graph has; 0 for a graph that is refused
 abbrev pub work_words : Edition → List ℕ → ℕ

@@ -8,12 +8,14 @@ ghost use Rattle.compare.specs.Comparison.{comparison_of};
 ghost use Rattle.cycles.specs.Outcome.{outcome_of};
 ghost use Rattle.founded.specs.Answers.{call_of};
 ghost use Rattle.within.specs.WithinAnswers.{within_of};
+ghost use Rattle.undecided.specs.Answers.{open_of};
 ghost use Rattle.abi.specs.Codes.{Tells, NeedTells, Placed, ComparisonTells, ComparisonPlaced};
 
 use cycles::NeedError;
 use founded::CallError;
 use numbers::Numbered;
 use refusals::Refusal;
+use undecided::OpenError;
 use std::cmp::Ordering;
 use within::WithinError;
 
@@ -118,5 +120,23 @@ pub fn within_code<C: Code>(answered: Result<(), WithinError>) -> C
             C::of(told.number, told.place)
         }
         Err(WithinError::Allowance) => C::of(15, 0),
+    }
+}
+
+// The call over all choices of undecided bits.
+pub fn open_code<C: Code>(answered: Result<(), OpenError>) -> C
+    requires { (open_of answered).place < C.limit }
+    ensures { Tells C.limit (open_of answered) (C.value result) }
+{
+    match answered {
+        Ok(()) => C::of(0, 0),
+        Err(OpenError::Refused(e)) => {
+            let told = Numbered::from(e);
+            C::of(told.number, told.place)
+        }
+        Err(OpenError::Lengths) => C::of(10, 0),
+        Err(OpenError::Both) => C::of(21, 0),
+        Err(OpenError::Work) => C::of(11, 0),
+        Err(OpenError::Absorbed(n)) => C::of(12, n),
     }
 }

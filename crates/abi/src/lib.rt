@@ -9,10 +9,10 @@ pub mod wide;
 
 ghost use Rattle.theory.specs.Accepted.{edition1};
 ghost use Rattle.refusals.specs.Refusals.{graph_answer};
-ghost use Rattle.abi.specs.Codes.{Tells, Needed, PreparedAs, CompletedAs, CompletedWithinAs, UnfoundedAs, ComparisonTells};
+ghost use Rattle.abi.specs.Codes.{Tells, Needed, PreparedAs, CompletedAs, CompletedWithinAs, UndecidedAs, UnfoundedAs, ComparisonTells};
 ghost use Rattle.compare.specs.Comparison.{comparison};
 
-use crate::codes::{call_code, checked_code, compared_code, needed_code, within_code};
+use crate::codes::{call_code, checked_code, compared_code, needed_code, open_code, within_code};
 use within::Meter;
 
 // The graph check.
@@ -91,4 +91,23 @@ pub extern "C" fn founded_complete_within(
     let answered = within::complete(graph, never, atom_never, output, work, &mut meter);
     *allowance = meter.left;
     within_code(answered)
+}
+
+// The atoms missing under every choice of the undecided bits, and those missing under at least one.
+#[unsafe(no_mangle)]
+pub extern "C" fn founded_undecided(
+    graph: &[u16],
+    never: &[u64],
+    atom_never: &[u64],
+    open_nodes: &[u64],
+    open_atoms: &[u64],
+    always: &mut [u64],
+    sometimes: &mut [u64],
+    work: &mut [u16],
+) -> u32
+    ensures { UndecidedAs 65536 graph.now never.now atom_never.now open_nodes.now open_atoms.now always.old sometimes.old work.old always.new sometimes.new work.new result }
+{
+    open_code(undecided::undecided(
+        graph, never, atom_never, open_nodes, open_atoms, always, sometimes, work,
+    ))
 }

@@ -5,7 +5,7 @@
 ghost use Rattle.std.specs.Prelude.{◌≡◌};
 ghost use Rattle.theory.specs.Accepted.{edition1, edition2};
 ghost use Rattle.refusals.specs.Refusals.{graph_answer};
-ghost use Rattle.abi.specs.Codes.{Tells, Needed, PreparedAs, CompletedAs, CompletedWithinAs, UnfoundedAs, work_words, ComparisonTells};
+ghost use Rattle.abi.specs.Codes.{Tells, Needed, PreparedAs, CompletedAs, CompletedWithinAs, UnfoundedAs, work_words, ComparisonTells, UndecidedAs};
 ghost use Rattle.compare.specs.Comparison.{comparison};
 
 // Graphs of edition 1: the graph check.
@@ -81,6 +81,25 @@ pub extern "C" fn founded_complete_within(
     ensures { CompletedWithinAs 65536 edition1 graph.now never.now atom_never.now output.old work.old allowance.old output.new work.new allowance.new result }
 {
     abi::founded_complete_within(graph, never, atom_never, output, work, allowance)
+}
+
+// The atoms missing under every choice of the undecided bits, and those missing under at least one.
+#[unsafe(no_mangle)]
+pub extern "C" fn founded_undecided(
+    graph: &[u16],
+    never: &[u64],
+    atom_never: &[u64],
+    open_nodes: &[u64],
+    open_atoms: &[u64],
+    always: &mut [u64],
+    sometimes: &mut [u64],
+    work: &mut [u16],
+) -> u32
+    ensures { UndecidedAs 65536 graph.now never.now atom_never.now open_nodes.now open_atoms.now always.old sometimes.old work.old always.new sometimes.new work.new result }
+{
+    abi::founded_undecided(
+        graph, never, atom_never, open_nodes, open_atoms, always, sometimes, work,
+    )
 }
 
 // Graphs of edition 2: the graph check.

@@ -11,6 +11,7 @@
 pub mod caches;
 pub mod inputs;
 pub mod measure;
+pub mod open;
 pub mod plain;
 pub mod plot;
 pub mod report;

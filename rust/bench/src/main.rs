@@ -6,8 +6,9 @@
 //! Rust, up to its largest graph), `order` (the check of both editions with
 //! links in any order against plain Rust), `unfounded` (the pass with every atom
 //! marked against the pass), `pairs` (two equal graphs of edition 1 compared,
-//! against one check) and `within` (the pass within an allowance against the pass);
-//! without `--part` all are run. With `--bars` it
+//! against one check), `within` (the pass within an allowance against the pass) and
+//! `open` (the call on undecided bits against the lone pass); without `--part` all
+//! are run. With `--bars` it
 //! ends with 1 if a bar does not hold; with `--plot` it writes the picture of
 //! `narrow`, with `--plot-wide` that of `scale`; with `--graphs` there are so many
 //! graphs of each size of edition 1.
@@ -16,10 +17,10 @@ use std::process::ExitCode;
 
 use bench::measure::{EDITION_1, THEORY};
 use bench::report::Bar;
-use bench::{caches, inputs, measure, plot, report};
+use bench::{caches, inputs, measure, open, plot, report};
 
 const USAGE: &str = "bench [--bars] [--plot FILE] [--plot-wide FILE] [--rounds COUNT] [--graphs COUNT] \
-                     [--part narrow|editions|scale|order|unfounded|pairs|within]";
+                     [--part narrow|editions|scale|order|unfounded|pairs|within|open]";
 
 struct Asked {
     bars: bool,
@@ -39,10 +40,11 @@ enum Part {
     Order,
     Unfounded,
     Pairs,
+    Open,
 }
 
 impl Part {
-    const ALL: [Self; 7] = [
+    const ALL: [Self; 8] = [
         Self::Narrow,
         Self::Editions,
         Self::Scale,
@@ -50,6 +52,7 @@ impl Part {
         Self::Unfounded,
         Self::Pairs,
         Self::Within,
+        Self::Open,
     ];
 
     fn of(word: &str) -> Option<Self> {
@@ -61,6 +64,7 @@ impl Part {
             "order" => Some(Self::Order),
             "unfounded" => Some(Self::Unfounded),
             "pairs" => Some(Self::Pairs),
+            "open" => Some(Self::Open),
             _ => None,
         }
     }
@@ -125,6 +129,12 @@ impl Part {
                 println!("Two equal graphs compared, against one check\n");
                 println!("{}", report::pairs(&each));
                 Ok(report::pair_bars(&each))
+            }
+            Self::Open => {
+                let rows = open::all(asked.rounds);
+                println!("The call on undecided bits against the lone pass\n");
+                println!("{}", open::table(&rows));
+                Ok(open::bars(&rows))
             }
         }
     }

@@ -6,6 +6,7 @@
 //! - [`agree`]: one graph compared, with its masks;
 //! - [`ours`]: the proved calls, with the memory lent to them watched;
 //! - [`within`]: one graph's passes within an allowance;
+//! - [`open`]: the calls on undecided bits, held to every choice;
 //! - [`runs`]: whole families of graphs compared;
 //! - [`recut`]: what request 7 promises, over runs of the proved calls;
 //! - [`pairs`]: two graphs, by the order of request 14;
@@ -18,6 +19,7 @@ pub mod cases;
 pub mod content;
 pub mod damage;
 pub mod edges;
+pub mod open;
 pub mod ours;
 pub mod pairs;
 pub mod programs;

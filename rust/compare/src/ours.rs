@@ -78,11 +78,11 @@ impl<T: Copy + PartialEq> Lent<T> {
         self.buffer.clone_from(&self.image);
     }
 
-    fn slice(&self) -> Range<usize> {
+    pub(crate) fn slice(&self) -> Range<usize> {
         GUARD..self.image.len() - GUARD
     }
 
-    fn len(&self) -> usize {
+    pub(crate) fn len(&self) -> usize {
         self.slice().len()
     }
 
@@ -91,7 +91,7 @@ impl<T: Copy + PartialEq> Lent<T> {
     }
 
     /// What a success must leave in the slice.
-    fn written(&mut self, words: &[T]) {
+    pub(crate) fn written(&mut self, words: &[T]) {
         let slice = self.slice();
         self.image[slice].copy_from_slice(words);
     }

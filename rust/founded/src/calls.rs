@@ -160,6 +160,45 @@ pub fn complete_within(
     })
 }
 
+/// Telemetry not yet in, on graphs of edition 1. Beside each mask comes one of undecided bits: `open` beside `never`, `atom_open` beside `atom_never`. `always` lists the atoms missing
+/// under every choice of the undecided bits, `sometimes` those missing under at least one. Both outputs are left, and the work area, as [`prepare`](narrow::prepare) leaves them.
+///
+/// # Errors
+/// The first of 1 to 12, 14 and 21 that applies.
+#[expect(clippy::too_many_arguments, reason = "the call's own, each a slice")]
+pub fn undecided(
+    graph: &[u16],
+    never: &[u64],
+    atom_never: &[u64],
+    open: &[u64],
+    atom_open: &[u64],
+    always: &mut [u64],
+    sometimes: &mut [u64],
+    work: &mut [u16],
+) -> Result<(), Refusal> {
+    // SAFETY: as in `prepare`, for both outputs.
+    answer(graph, unsafe {
+        raw::founded_undecided(
+            graph.as_ptr(),
+            graph.len(),
+            never.as_ptr(),
+            never.len(),
+            atom_never.as_ptr(),
+            atom_never.len(),
+            open.as_ptr(),
+            open.len(),
+            atom_open.as_ptr(),
+            atom_open.len(),
+            always.as_mut_ptr(),
+            always.len(),
+            sometimes.as_mut_ptr(),
+            sometimes.len(),
+            work.as_mut_ptr(),
+            work.len(),
+        )
+    })
+}
+
 /// The four calls by name, for words of one type.
 macro_rules! named {
     ($word:ty) => {

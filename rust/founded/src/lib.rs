@@ -119,6 +119,38 @@
 //! # Ok::<(), founded::Error>(())
 //! ```
 //!
+//! # Telemetry not yet in
+//!
+//! Before a pass of the ground station some readings are open. [`Solver::undecided`] says what is missing in any case, and what may be. The heater is on because the latch is set, the
+//! latch is set because the heater is on, and a command switches the heater on as long as the bus has power. Whether it has is not known yet:
+//!
+//! ```
+//! use founded::{AtomMask, Node, NodeMask, Solver, Theory};
+//!
+//! let mut theory = Theory::new();
+//! let heater = theory.add_atom()?;
+//! let latch = theory.add_atom()?;
+//! let heater_on = theory.add_node(Node::Atom(heater))?;
+//! let latch_set = theory.add_node(Node::Atom(latch))?;
+//! let power = theory.add_node(Node::Threshold)?;
+//! theory.add_producer(latch_set, &[heater])?;
+//! theory.add_producer(heater_on, &[latch])?;
+//! theory.add_producer(power, &[heater])?;
+//! let graph = theory.build()?;
+//!
+//! let (never, atom_never) = (NodeMask::none(&graph), AtomMask::none(&graph));
+//! let (open, atom_open) = (NodeMask::of(&graph, [power])?, AtomMask::none(&graph));
+//! let mut solver = Solver::new();
+//! let lists = solver.undecided(&graph, &never, &atom_never, &open, &atom_open)?;
+//! assert!(lists.always.is_empty() && lists.sometimes.iter().eq([heater, latch]));
+//!
+//! // Open is the heater itself: ruled out, it is not missing, but the latch is.
+//! let (open, atom_open) = (NodeMask::none(&graph), AtomMask::of(&graph, [heater])?);
+//! let lists = solver.undecided(&graph, &never, &atom_never, &open, &atom_open)?;
+//! assert!(lists.always.is_empty() && lists.sometimes.iter().eq([latch]));
+//! # Ok::<(), founded::Error>(())
+//! ```
+//!
 //! # What there is
 //!
 //! - [`Theory`] builds a graph, [`Graph`] or [`WideGraph`] holds the words of one that the proved check has accepted. [`GraphOf::from_words`] takes words from outside. [`Graph::widen`] goes from edition 1 to edition 2.
@@ -153,13 +185,13 @@ mod theory;
 mod word;
 
 pub use calls::narrow::{check, compare, complete, needed, prepare, unfounded};
-pub use calls::{WORK_WORDS, complete_within, mask_words, wide};
+pub use calls::{WORK_WORDS, complete_within, mask_words, undecided, wide};
 pub use error::Error;
 pub use graph::{Graph, GraphOf, WideGraph};
 pub use list::{AtomList, AtomsIter};
 pub use mask::{AtomMask, Atoms, Cut, Mask, NodeMask};
 pub use meter::Meter;
 pub use refusal::{Chain, Refusal};
-pub use solver::Solver;
+pub use solver::{Solver, Undecided};
 pub use theory::{AtomId, Node, NodeId, Producer, ProducerId, Theory};
 pub use word::Word;

@@ -47,6 +47,25 @@ unsafe extern "C" {
         work_len: usize,
     ) -> u32;
 
+    pub fn founded_undecided(
+        graph: *const u16,
+        graph_len: usize,
+        never: *const u64,
+        never_len: usize,
+        atom_never: *const u64,
+        atom_never_len: usize,
+        open: *const u64,
+        open_len: usize,
+        atom_open: *const u64,
+        atom_open_len: usize,
+        always: *mut u64,
+        always_len: usize,
+        sometimes: *mut u64,
+        sometimes_len: usize,
+        work: *mut u16,
+        work_len: usize,
+    ) -> u32;
+
     pub fn founded_compare(
         graph: *const u16,
         graph_len: usize,

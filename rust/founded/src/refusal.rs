@@ -4,7 +4,7 @@ use std::fmt;
 use crate::{NodeId, ProducerId};
 
 /// A call turned away: one case for each number of the table "Refusals" in docs/FORMAT.md. Of several that apply a call gives the
-/// first in the table's order, in which 14 stands between 6 and 7. In refusals 1, 2, 9 and 11 each edition has its own numbers.
+/// first in the table's order, in which 14 stands between 6 and 7, and 21 between 10 and 11. In refusals 1, 2, 9 and 11 each edition has its own numbers.
 #[derive(Clone, Copy, Debug, PartialEq, Eq, Hash)]
 #[non_exhaustive]
 pub enum Refusal {
@@ -37,6 +37,8 @@ pub enum Refusal {
     /// 14: a chain comes back to one of its own links. The first node whose leaf chain does, or where none does, the first producer whose head chain does. A call's code
     /// does not say which of the two; a walk along the node's chain does.
     ComesBack(Chain),
+    /// 21: a node or an atom is both ruled out and undecided. Given right after 10.
+    CutAndOpen,
 }
 
 /// Whose chain it is.
@@ -65,6 +67,7 @@ impl Refusal {
             11 => Self::Work,
             12 => Self::Absorbed(NodeId(place)),
             15 => Self::Allowance,
+            21 => Self::CutAndOpen,
             _ => return None,
         })
     }
@@ -87,6 +90,7 @@ impl Refusal {
             Self::Absorbed(_) => 12,
             Self::Allowance => 15,
             Self::ComesBack(_) => 14,
+            Self::CutAndOpen => 21,
         }
     }
 
@@ -108,7 +112,8 @@ impl Refusal {
             | Self::Entries
             | Self::Lengths
             | Self::Work
-            | Self::Allowance => 0,
+            | Self::Allowance
+            | Self::CutAndOpen => 0,
         }
     }
 
@@ -144,6 +149,7 @@ impl Refusal {
             Self::ComesBack(Chain::Producer(_)) => {
                 "the head chain of this producer comes back to one of its own links"
             }
+            Self::CutAndOpen => "a node or an atom is both ruled out and undecided",
         }
     }
 }

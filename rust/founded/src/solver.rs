@@ -127,3 +127,51 @@ impl Solver<u16> {
         Ok(Atoms::of(output))
     }
 }
+
+/// The atoms that are missing whatever the open readings turn out to be, and those that may be.
+#[derive(Clone, Copy, Debug, PartialEq, Eq)]
+pub struct Undecided<'a> {
+    /// Missing under every choice of the undecided bits. An atom that is undecided itself is never among them.
+    pub always: Atoms<'a>,
+    /// Missing under at least one.
+    pub sometimes: Atoms<'a>,
+}
+
+impl Solver<u16> {
+    /// Telemetry not yet in: what is missing in any case, and what may be. A node of `open`, or an atom of `atom_open`, is undecided: each choice rules it out or does not. With
+    /// nothing undecided both lists are those of [`complete`](Self::complete).
+    ///
+    /// # Errors
+    /// [`Refusal::Absorbed`]; [`Refusal::CutAndOpen`] for a node or an atom both ruled out and undecided; and [`Refusal::Lengths`] if a mask is that of a graph of another count.
+    pub fn undecided(
+        &mut self,
+        graph: &Graph,
+        never: &NodeMask,
+        atom_never: &AtomMask,
+        open: &NodeMask,
+        atom_open: &AtomMask,
+    ) -> Result<Undecided<'_>, Refusal> {
+        let nodes = [never.count(), open.count()] == [graph.nodes(); 2];
+        let atoms = [atom_never.count(), atom_open.count()] == [graph.atoms(); 2];
+        if !nodes || !atoms {
+            return Err(Refusal::Lengths);
+        }
+        let words = calls::mask_words(graph.atoms());
+        let work = lend(&mut self.work, graph.work_words());
+        let (always, sometimes) = lend(&mut self.output, 2 * words).split_at_mut(words);
+        calls::undecided(
+            graph.words(),
+            never.words(),
+            atom_never.words(),
+            open.words(),
+            atom_open.words(),
+            always,
+            sometimes,
+            work,
+        )?;
+        Ok(Undecided {
+            always: Atoms::of(always),
+            sometimes: Atoms::of(sometimes),
+        })
+    }
+}

@@ -1,4 +1,4 @@
-//! Document 01, and requests 5, 6, 8, 9 and 14 of document 02, in slow, plain Rust, written
+//! Document 01, and requests 5, 6, 8, 9, 12, 13 and 14 of document 02, in slow, plain Rust, written
 //! from their text alone.
 //!
 //! - [`Edition`], [`Word`]: what an edition has of its own; 16-bit words are of
@@ -12,7 +12,8 @@
 //! - [`program`]: standard input's bytes to the program's text;
 //! - [`Graph`], [`Prepared`]: the meaning, from which the calls are made;
 //! - [`large`]: closed chains and support in graphs too large for the slow ways;
-//! - [`groups`]: unearned groups and unfounded sets, by trying every set of atoms.
+//! - [`groups`]: unearned groups and unfounded sets, by trying every set of atoms;
+//! - [`open`]: undecided bits, by trying every choice.
 
 mod calls;
 mod closure;
@@ -21,6 +22,7 @@ mod graph;
 pub mod groups;
 pub mod large;
 mod meaning;
+pub mod open;
 mod order;
 pub mod program;
 mod table;
