@@ -84,7 +84,7 @@ impl Pairs {
             Ok(Ordering::Equal) => (0, 0),
             Ok(Ordering::Less) => (0, 1),
             Ok(Ordering::Greater) => (0, 2),
-            Err(refusal) => (u32::from(refusal.number), refusal.places[0]),
+            Err(refusal) => (u32::from(refusal.number), refusal.place),
         };
         self.graph.lend(words.iter().copied());
         self.other.lend(other.iter().copied());
