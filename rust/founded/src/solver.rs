@@ -22,6 +22,19 @@ fn lend<T: Copy + Default>(buffer: &mut Vec<T>, words: usize) -> &mut [T] {
     &mut buffer[..words]
 }
 
+/// Whether both masks are of graphs of this one's counts. The calls take short masks, and so cannot tell one of a smaller graph.
+fn fit<W: Word>(
+    graph: &GraphOf<W>,
+    never: &NodeMask,
+    atom_never: &AtomMask,
+) -> Result<(), Refusal> {
+    if never.count() == graph.nodes() && atom_never.count() == graph.atoms() {
+        Ok(())
+    } else {
+        Err(Refusal::Lengths)
+    }
+}
+
 impl<W: Word> Solver<W> {
     #[must_use]
     pub const fn new() -> Self {
@@ -67,9 +80,7 @@ impl<W: Word> Solver<W> {
         never: &NodeMask,
         atom_never: &AtomMask,
     ) -> Result<Atoms<'_>, Refusal> {
-        if never.count() != graph.nodes() || atom_never.count() != graph.atoms() {
-            return Err(Refusal::Lengths);
-        }
+        fit(graph, never, atom_never)?;
         let (output, work) = self.lent(graph);
         calls::complete(
             graph.words(),
@@ -93,6 +104,7 @@ impl Solver<u16> {
         never: &NodeMask,
         atom_never: &AtomMask,
     ) -> Result<Atoms<'_>, Refusal> {
+        fit(graph, never, atom_never)?;
         let (output, work) = self.lent(graph);
         calls::unfounded(
             graph.words(),

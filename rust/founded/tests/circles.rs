@@ -6,7 +6,7 @@ use std::collections::BTreeSet;
 
 use common::Rng;
 use common::command::rule_file;
-use founded::explain::{Cuts, Explanation};
+use founded::explain::{Cuts, Explanation, unproduced};
 use founded::rules::{self, Literal, Program};
 
 /// What is cut in a run, as the test has it.
@@ -292,6 +292,49 @@ fn random_rule_files() {
         .into_iter()
         .min();
     assert!(least > Some(100), "{seen:?}");
+}
+
+/// The list of what nothing produces, as plain code has it, and in both ways that the crate has: by the call, and by the missing list of the rules with `a :- a` for each state. The second
+/// is taken in either edition: on rules to which these are added, and where so many facts are added that edition 1 has no room.
+#[test]
+fn what_nothing_produces() {
+    let facts: String = (0..1_025).map(|n| format!("fact({n}).\n")).collect();
+    let (mut some, mut more, mut falling) = (0, 0, 0);
+    for seed in 0..600 {
+        let mut rng = Rng::new(seed);
+        let text = rule_file(&mut rng, if seed % 10 == 0 { 30 } else { 8 });
+        let read = |text: &str| rules::read([("random.lp", text)]).unwrap();
+        let program = read(&text);
+        let (cuts, cut) = random_cuts(&mut rng, &program);
+        let list = unproduced(&program, &cuts).unwrap();
+        let explanation = Explanation::of(&program, &cuts).unwrap();
+
+        let every: States = (0..program.states().len()).collect();
+        let left = missing(&program, &cut, &every, &States::new());
+        assert_eq!(set(&list), left, "{text}");
+        assert!(set(&explanation.missing).is_subset(&left));
+
+        // Numbers stay as they are, since what is added comes last.
+        let names = program.states().iter();
+        let loops: String = names.map(|name| format!("{name} :- {name}.\n")).collect();
+        let with_loops = read(&format!("{text}{loops}"));
+        let explained = Explanation::of(&with_loops, &cuts).unwrap();
+        assert_eq!(explained.missing, list, "{text}");
+
+        let wide = read(&format!("{text}{facts}"));
+        assert_eq!(unproduced(&wide, &cuts).unwrap(), list, "{text}");
+        let explained = Explanation::of(&wide, &cuts).unwrap();
+        assert_eq!(explained.parts, explanation.parts);
+
+        some += usize::from(!list.is_empty());
+        more += usize::from(list.len() > explanation.missing.len());
+        let mut falls = explanation.parts.iter().filter_map(|part| part.falls());
+        falling += usize::from(falls.any(|falls| !falls.is_empty()));
+    }
+    assert!(
+        some > 100 && more > 100 && falling > 50,
+        "{some} {more} {falling}"
+    );
 }
 
 #[test]

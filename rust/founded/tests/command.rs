@@ -55,11 +55,33 @@ fn examples() {
             ],
             1,
         ),
+        (
+            "cubesat-unproduced.txt",
+            &[
+                "--unproduced",
+                "examples/cubesat.lp",
+                "--cut=payload_bus",
+                "--cut=command(heater_on)",
+                "examples/command.lp",
+            ],
+            1,
+        ),
         ("passes.txt", &["examples/passes.aspif"], 1),
         ("passes-variables.txt", &["examples/passes.lp"], 2),
         (
             "cubesat.json",
             &["--json", "examples/cubesat.lp", "--cut", "payload_bus"],
+            1,
+        ),
+        (
+            "unproduced.json",
+            &[
+                "--json",
+                "--unproduced",
+                "examples/cubesat.lp",
+                "examples/command.lp",
+                "--cut=sunlight",
+            ],
             1,
         ),
         (
@@ -325,6 +347,7 @@ fn arguments() {
     for option in [
         "--cut NAME",
         "--cut FILE:LINE",
+        "--unproduced",
         "--json",
         "--dot",
         "--svg FILE",
@@ -488,6 +511,85 @@ fn names_of_any_letters() {
     assert!(
         dot.contains("\"p(\\\"a\\\\\\\"\\\\\\\\ä\\\\n<&>\t\\\")\""),
         "{dot}"
+    );
+}
+
+/// What nothing produces is named where it is asked for, and then the program ends with 1 where nothing is missing too. It is in no picture.
+#[test]
+fn what_nothing_produces() {
+    let rules = "#external sun.\nlamp :- sun.\nheater :- lamp.\nbus.\n";
+    let told = |arguments: &[&str]| {
+        let ran = run(&[&["check"], arguments].concat(), rules);
+        assert_eq!(ran.stderr, "");
+        (ran.status, ran.stdout)
+    };
+    let end = |lines| {
+        format!(
+            "\nNothing is missing: no state is on a loop. The first {lines} lines are proved.\n"
+        )
+    };
+    let cut = "--cut=sun";
+    assert_eq!(
+        told(&[cut]),
+        (
+            0,
+            format!("loops no\nmissing 0\nruled out sun\n{}", end("two"))
+        )
+    );
+    assert_eq!(
+        told(&[cut, "--unproduced"]),
+        (
+            1,
+            format!(
+                "loops no\nmissing 0\nunproduced 2 lamp heater\nruled out sun\n{}",
+                end("three")
+            )
+        )
+    );
+    assert_eq!(
+        told(&["--unproduced"]),
+        (
+            0,
+            format!("loops no\nmissing 0\nunproduced 0\n{}", end("three"))
+        )
+    );
+    // A state that is ruled out is in no list, and what hangs on it is.
+    let (status, printed) = told(&["--unproduced", "--cut=lamp"]);
+    assert_eq!(status, 1);
+    assert!(printed.contains("\nunproduced 1 heater\n"), "{printed}");
+    let picture = told(&[cut, "--dot"]).1;
+    assert_eq!(told(&[cut, "--dot", "--unproduced"]), (1, picture));
+}
+
+/// In edition 2 the list is the proved missing list of more rules, and that is what is said of it.
+#[test]
+fn what_nothing_produces_among_many() {
+    let mut rules: String = (0..1_100)
+        .map(|n| format!("s({n}) :- s({}).\n", (n + 1) % 1_100))
+        .collect();
+    rules += "lamp :- s(7).\nbus.\n";
+    let ran = run(&["check", "--unproduced"], &rules);
+    assert_eq!((ran.status, &*ran.stderr), (1, ""));
+    let lines: Vec<&str> = ran.stdout.lines().collect();
+    assert!(lines[1].starts_with("missing 1100 s(0) s(1) "));
+    assert!(lines[2].starts_with("unproduced 1101 s(0) s(1) "));
+    assert!(lines[2].ends_with(" s(1099) lamp"));
+    assert_eq!(
+        lines[lines.len() - 1],
+        "The first two lines are proved. The third is the proved missing list of the rules with `a :- a` added for each state a. \
+         What is told of the circles is not, but each was checked against the rules."
+    );
+    let json = run(&["check", "--unproduced", "--json"], &rules).stdout;
+    assert!(
+        json.contains("  \"proved\": \"loops and missing are proved; unproduced is the proved missing list of the rules with `a :- a` added for each state a; "),
+        "{json}"
+    );
+
+    let facts: String = (0..140_000).map(|n| format!("s({n}).\n")).collect();
+    assert_eq!(run(&["check"], &facts).status, 0);
+    assert_eq!(
+        refused(&["check", "--unproduced"], &facts),
+        "founded: --unproduced: with `a :- a` added for each state a: expected at most 262144 rules, found more\n"
     );
 }
 

@@ -165,4 +165,12 @@ fn unfounded_beside_the_pass() {
     ];
     assert_eq!(both(&shared, 0, 0), (7, 0));
     assert_eq!(both(&shared, 0, 4), (3, 3));
+    // Masks of another graph, which the call would take for short ones.
+    let [small, large] = [[1, 129, 0, 0, 0], [1, 130, 0, 0, 0]]
+        .map(|words| GraphOf::from_words(words.to_vec()).unwrap());
+    let (never, atom_never) = (NodeMask::none(&small), AtomMask::none(&small));
+    let list = solver.unfounded(&small, &never, &atom_never);
+    assert_eq!(list.map(Atoms::len), Ok(129));
+    let list = solver.unfounded(&large, &never, &atom_never);
+    assert_eq!(list.err(), Some(Refusal::Lengths));
 }

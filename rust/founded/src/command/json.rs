@@ -3,7 +3,17 @@
 use super::Report;
 use crate::explain::Part;
 
-const PROVED: &str = "loops and missing are proved; what is told of the circles is not, but each was checked against the rules";
+/// What of the answer is proved.
+fn proved(report: &Report<'_>) -> String {
+    let lists = match report.unproduced {
+        None => "loops and missing are proved",
+        Some(_) if report.is_narrow() => "loops, missing and unproduced are proved",
+        Some(_) => {
+            "loops and missing are proved; unproduced is the proved missing list of the rules with `a :- a` added for each state a"
+        }
+    };
+    format!("{lists}; what is told of the circles is not, but each was checked against the rules")
+}
 
 /// A JSON string.
 fn string(text: &str) -> String {
@@ -85,7 +95,7 @@ impl Json<'_, '_> {
     }
 }
 
-/// The answer. A part of `circles` leans on others by their places in it, from 0; `broken_by` has the states that break it alone; null is what was not worked out.
+/// The answer, with what nothing produces where that is asked for. A part of `circles` leans on others by their places in it, from 0; `broken_by` has the states that break it alone; null is what was not worked out.
 pub fn told(report: &Report<'_>) -> String {
     let (program, explanation, json) = (report.program, report.explanation, Json(report));
     let parts: Vec<String> = explanation
@@ -97,18 +107,22 @@ pub fn told(report: &Report<'_>) -> String {
         [] => "[]".to_owned(),
         _ => format!("[\n{}\n  ]", parts.join(",\n")),
     };
-    let fields = [
-        (
-            "files",
-            strings(program.sources().iter().map(|source| source.name())),
-        ),
+    let files = program.sources().iter().map(|source| source.name());
+    let mut fields = vec![
+        ("files", strings(files)),
         ("warnings", strings(program.warning_lines())),
         ("cut", strings(report.cuts.told(program).iter())),
         ("loops", explanation.loops.to_string()),
         ("missing", json.names(&explanation.missing)),
-        ("circles", parts),
-        ("proved", string(PROVED)),
     ];
-    let fields = fields.map(|(name, value)| format!("  \"{name}\": {value}"));
+    if let Some(unproduced) = &report.unproduced {
+        fields.push(("unproduced", json.names(unproduced)));
+    }
+    fields.push(("circles", parts));
+    fields.push(("proved", string(&proved(report))));
+    let fields: Vec<String> = fields
+        .iter()
+        .map(|(name, value)| format!("  \"{name}\": {value}"))
+        .collect();
     format!("{{\n{}\n}}\n", fields.join(",\n"))
 }

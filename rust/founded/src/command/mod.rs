@@ -14,13 +14,13 @@ use std::ffi::{OsStr, OsString};
 use std::fs;
 use std::io::{self, Read, Write};
 
-use crate::explain::{Cuts, Explanation};
+use crate::explain::{self, Cuts, Either, Explanation, Failure};
 use crate::rules::{self, Problems, Program};
 use options::{Asked, Form, Options};
 
 /// Nothing is missing.
 const CLEAN: u8 = 0;
-/// Something is missing.
+/// Something is missing, or unproduced where that is asked for.
 const MISSING: u8 = 1;
 /// No rule files, or refused.
 const REFUSED: u8 = 2;
@@ -30,8 +30,17 @@ struct Report<'a> {
     program: &'a Program,
     cuts: &'a Cuts,
     explanation: &'a Explanation,
+    /// What nothing produces, where `--unproduced` asks for it.
+    unproduced: Option<Vec<usize>>,
     /// What `--words` says of the file that it wrote.
     words: Option<String>,
+}
+
+impl Report<'_> {
+    /// Whether the proved calls were those of edition 1.
+    fn is_narrow(&self) -> bool {
+        matches!(self.explanation.words.graph, Either::Narrow(_))
+    }
 }
 
 /// Where the program reads and writes.
@@ -94,8 +103,13 @@ fn check(options: &Options, streams: &mut Streams<'_>) -> Result<u8, String> {
         program: &program,
         cuts: &cuts,
         explanation: &explanation,
+        unproduced: None,
         words: None,
     };
+    if options.unproduced {
+        let list = explain::unproduced(&program, &cuts).map_err(|failure| no_room(&failure))?;
+        report.unproduced = Some(list);
+    }
     if let Some(file) = &options.words {
         let bytes =
             words::bytes(&explanation).map_err(|wrong| format!("founded: --words: {wrong}"))?;
@@ -111,8 +125,14 @@ fn check(options: &Options, streams: &mut Streams<'_>) -> Result<u8, String> {
         Form::Dot => dot::told(&report),
     };
     print(streams, &text)?;
-    let clean = explanation.missing.is_empty();
+    let unproduced = report.unproduced.iter().flatten();
+    let clean = explanation.missing.iter().chain(unproduced).count() == 0;
     Ok(if clean { CLEAN } else { MISSING })
+}
+
+/// Rules that have room without those that the list of what nothing produces adds to large ones.
+fn no_room(failure: &Failure) -> String {
+    format!("founded: --unproduced: with `a :- a` added for each state a: {failure}")
 }
 
 /// The warnings, the first of them if there are many.

@@ -26,6 +26,7 @@ pub struct Options {
     pub form: Form,
     pub svg: Option<OsString>,
     pub words: Option<OsString>,
+    pub unproduced: bool,
 }
 
 pub const HELP: &str = "\
@@ -36,6 +37,7 @@ Several files are read together, as one. aspif, which gringo --output=intermedia
 
     --cut NAME        rules out a state, an #external or a `not x`; may be given several times
     --cut FILE:LINE   rules out the bodies of the rules on that line
+    --unproduced      names the states that nothing produces too, on a loop or not: they hold by no rule whose conditions hold
     --json            prints JSON
     --dot             prints the missing states and their rules for graphviz
     --svg FILE        draws them into FILE
@@ -43,7 +45,7 @@ Several files are read together, as one. aspif, which gringo --output=intermedia
     --help            prints this
     --version         prints the version
 
-It ends with 0 if nothing is missing, with 1 if something is, and with 2 if what it was given is no rule file or is refused.
+It ends with 0 if nothing is missing (with --unproduced: and nothing unproduced), with 1 if something is, and with 2 if what it was given is no rule file or is refused.
 ";
 
 /// The value of an option: what stands behind its `=`, or the next argument.
@@ -81,6 +83,7 @@ fn check(mut rest: impl Iterator<Item = OsString>) -> Result<Asked, String> {
             ("--help" | "-h", None) => return Ok(Asked::Help),
             ("--version", None) => return Ok(Asked::Version),
             ("--json", None) => set_form(&mut options, Form::Json)?,
+            ("--unproduced", None) => options.unproduced = true,
             ("--dot", None) => set_form(&mut options, Form::Dot)?,
             ("--cut", _) => {
                 let cut = value(option, inline, &mut rest)?;

@@ -5,11 +5,19 @@ use std::fmt::Write;
 use super::Report;
 use crate::explain::Part;
 
-const PROVED: &str = "\
-The first two lines are proved. What is told of the circles is not, but each was checked against the rules.\n";
-
 /// The width of the words before what is told of a part.
 const LEFT: usize = 15;
+
+/// Which of the first lines are proved.
+fn proved(report: &Report<'_>) -> &'static str {
+    match report.unproduced {
+        None => "The first two lines are proved.",
+        Some(_) if report.is_narrow() => "The first three lines are proved.",
+        Some(_) => {
+            "The first two lines are proved. The third is the proved missing list of the rules with `a :- a` added for each state a."
+        }
+    }
+}
 
 /// `a, b or c`.
 fn either(names: &[&str]) -> String {
@@ -41,6 +49,14 @@ impl Text<'_, '_> {
     fn names(&self, states: &[usize]) -> Vec<&str> {
         let names = self.report.program.states();
         states.iter().map(|&state| &*names[state]).collect()
+    }
+
+    /// How many states there are in a list, and which.
+    fn list(&mut self, word: &str, states: &[usize]) {
+        let names = self.names(states).join(" ");
+        let line = format!("{word} {} {names}", states.len());
+        self.out.push_str(line.trim_end());
+        self.out.push('\n');
     }
 
     /// A line of a part, or several under the same words.
@@ -147,13 +163,11 @@ pub fn told(report: &Report<'_>) -> String {
         out: String::new(),
     };
     let loops = if explanation.loops { "yes" } else { "no" };
-    let mut head = format!("loops {loops}\nmissing {}", explanation.missing.len());
-    for name in text.names(&explanation.missing) {
-        head.push(' ');
-        head.push_str(name);
+    text.out = format!("loops {loops}\n");
+    text.list("missing", &explanation.missing);
+    if let Some(unproduced) = &report.unproduced {
+        text.list("unproduced", unproduced);
     }
-    head.push('\n');
-    text.out = head;
     if !report.cuts.is_empty() {
         let cuts = report.cuts.told(program).join(", ");
         // A String takes all that is written to it.
@@ -167,12 +181,17 @@ pub fn told(report: &Report<'_>) -> String {
     if let Some(words) = &report.words {
         let _ = writeln!(text.out, "{words}");
     }
-    text.out.push_str(if !explanation.parts.is_empty() {
-        PROVED
+    let proved = proved(report);
+    text.out += &if !explanation.parts.is_empty() {
+        format!(
+            "{proved} What is told of the circles is not, but each was checked against the rules.\n"
+        )
     } else if explanation.loops {
-        "Nothing is missing: each state on a loop is ruled out or held up by something besides the loop. The first two lines are proved.\n"
+        format!(
+            "Nothing is missing: each state on a loop is ruled out or held up by something besides the loop. {proved}\n"
+        )
     } else {
-        "Nothing is missing: no state is on a loop. The first two lines are proved.\n"
-    });
+        format!("Nothing is missing: no state is on a loop. {proved}\n")
+    };
     text.out
 }

@@ -12,14 +12,14 @@ mod strong;
 mod unfounded;
 mod unproduced;
 
-use std::collections::{HashMap, HashSet};
+use std::collections::HashMap;
 use std::fmt;
 
 pub use cuts::Cuts;
 pub use parts::Part;
 
 use crate::rules::{Problem, Program, Source};
-use crate::{AtomId, Error, GraphOf, Word, mask_words};
+use crate::{AtomId, Error, GraphOf, Word};
 use answer::Answer;
 pub(crate) use answer::Either;
 use laid::Laid;
@@ -112,6 +112,18 @@ impl Explanation {
     }
 }
 
+/// The states that nothing produces, on a loop or not, ascending: every uncut state that is left unsupported where a state holds only if it is supported. The missing states are among
+/// them. Where edition 1 has room for the rules, the list is the proved call's ([`Solver::unfounded`](crate::Solver::unfounded)). No such call takes wide graphs: for larger rules it is
+/// the proved missing list of the same rules with `a :- a.` added for each state.
+///
+/// # Errors
+/// The rules, or where they are large the rules with those that are added, have no room in any edition.
+pub fn unproduced(program: &Program, cuts: &Cuts) -> Result<Vec<usize>, Failure> {
+    let laid = Laid::of(program).map_err(Failure::Refused)?;
+    let list = unproduced::unproduced(&laid, cuts, &[]);
+    list.map_err(|error| Failure::Refused(laid.told(program, error)))
+}
+
 fn numbers(atoms: &[AtomId]) -> Vec<usize> {
     atoms.iter().map(|atom| atom.0 as usize).collect()
 }
@@ -137,18 +149,8 @@ fn checked<W: Word>(
             .map(|&state| program.states()[state].clone());
         return Err(Failure::Mistaken(names.collect()));
     }
-    let words = (
-        full(masks.0.words(), graph.nodes()),
-        full(masks.1.words(), graph.atoms()),
-    );
+    let words = (masks.0.words().to_vec(), masks.1.words().to_vec());
     Ok((answer, parts, words))
-}
-
-/// A mask's words with those that it may leave out.
-fn full(words: &[u64], count: usize) -> Vec<u64> {
-    let mut words = words.to_vec();
-    words.resize(mask_words(count), 0);
-    words
 }
 
 /// The first part that is no unfounded set together with those that it leans on, and that they lean on in turn. Each of its states is held to the rules with its own part and those
@@ -170,7 +172,7 @@ fn mistaken<'a>(parts: &'a [Part], rules: &unfounded::Rules<'_>) -> Option<&'a P
     None
 }
 
-/// What falls with each part, where the graph with a rule more for each state has room.
+/// What falls with each part, where the rules have room with what [`unproduced::unproduced`] adds.
 fn fill_falls(parts: &mut [Part], laid: &Laid, cuts: &Cuts) {
     if parts.is_empty() {
         return;
@@ -182,11 +184,10 @@ fn fill_falls(parts: &mut [Part], laid: &Laid, cuts: &Cuts) {
         let Ok(after) = unproduced::unproduced(laid, cuts, &part.states) else {
             return;
         };
-        let after: HashSet<AtomId> = after.into_iter().collect();
-        let fallen = before.iter().filter(|atom| !after.contains(atom));
-        let fallen = fallen.map(|atom| atom.0 as usize);
-        let own = |state: &usize| part.states.binary_search(state).is_ok();
-        part.falls = Some(fallen.filter(|state| !own(state)).collect());
+        let is_in = |list: &[usize], state: &usize| list.binary_search(state).is_ok();
+        let fallen = before.iter().copied();
+        let fallen = fallen.filter(|state| !is_in(&after, state) && !is_in(&part.states, state));
+        part.falls = Some(fallen.collect());
     }
 }
 
