@@ -155,14 +155,14 @@
 //!
 //! - [`Theory`] builds a graph, [`Graph`] or [`WideGraph`] holds the words of one that the proved check has accepted. [`GraphOf::from_words`] takes words from outside. [`Graph::widen`] goes from edition 1 to edition 2.
 //! - [`Solver`] owns the work area and the output and runs the loop test, the preparation and the pass, and on a [`Graph`] the pass with every atom marked ([`Solver::unfounded`]).
-//! - [`check`], [`needed`], [`prepare`] and [`complete`], here and in [`wide`], are the four calls over plain slices, for callers that keep their own memory.
+//! - [`check`], [`needed`], [`prepare`] and [`complete`], here and in [`wide`], are calls over plain slices, for callers that keep their own memory; so is [`unfounded`], here alone.
 //! - [`compare`] is one order for graphs of edition 1, by content, whatever the links' numbering. [`Graph`] is `Ord` by it.
 //! - [`complete_within`] is the pass within an allowance, with a [`Meter`].
-//! - [`raw`] has them as the archive does.
+//! - [`raw`] has all calls as the archive does.
 //! - A call is turned away by a [`Refusal`], with the number and place of docs/FORMAT.md's table.
 //! - A call's list is shown as [`Atoms`] until the next call; [`Atoms::to_list`] keeps it.
 //! - A [`Theory`] is had from a graph, and a graph from a theory, by `From` and `TryFrom`; a graph's bytes by [`GraphOf::to_bytes`] and [`GraphOf::from_bytes`].
-//! - [`rules`] reads rule files, [`explain`] tells why their states are missing, in circles; the program `founded` prints that.
+//! - [`rules`] reads rule files, [`explain`] tells why their states are missing, in circles, and which states nothing produces; the program `founded` prints that.
 
 mod bytes;
 mod calls;

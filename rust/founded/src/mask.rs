@@ -200,7 +200,7 @@ impl<I: Cut> Mask<I> {
     }
 }
 
-/// A list of atoms as a call leaves it: the cyclic atoms, or the missing ones.
+/// A list of atoms as a call leaves it: the cyclic atoms, the missing ones, or those that are left unfounded with every atom marked.
 #[derive(Clone, Copy, Debug, PartialEq, Eq)]
 pub struct Atoms<'a> {
     words: &'a [u64],
