@@ -1,0 +1,4 @@
+pub mod CountLaws
+pub mod OverLaws
+pub mod EveryLaws
+pub mod CallLaws
