@@ -14,7 +14,8 @@ use Rattle.theory.specs.Sets.{Is, Set, Mem, any, member, members, sum_below}
 use Rattle.theory.specs.Counts.{Distinct}
 use Rattle.theory.proofs.SetLaws.{clash, is_false, mem_member, member_mem, same_test}
 use Rattle.theory.proofs.CountLaws.{sum_le, sum_same}
-use Rattle.theory.specs.Work.{sum_in, sum_over}
+use Rattle.theory.specs.Work.{sum_in}
+use Rattle.theory.specs.Charge.{sum_over}
 
 pub sum_none : (n : ℕ) (f : ℕ → ℕ) → ((i : ℕ) → i < n → f i ≡ 0) → sum_below n f ≡ 0
 unfolding sum_below
@@ -98,7 +99,7 @@ in_nothing : (n : ℕ) (f : ℕ → ℕ) → sum_in n (λ v. member v []) f ≡ 
 unfolding sum_in member any
 in_nothing n f = sum_none n (λ i. 0) (λ i k. refl)
 
-pub in_list : (n : ℕ) (f : ℕ → ℕ) (l : List ℕ) → Distinct l → ((x : ℕ) → Mem x l → x < n) → sum_in n (λ v. member v l) f ≡ sum_over f l
+in_list : (n : ℕ) (f : ℕ → ℕ) (l : List ℕ) → Distinct l → ((x : ℕ) → Mem x l → x < n) → sum_in n (λ v. member v l) f ≡ sum_over f l
 unfolding sum_over
 in_list n f [] d low = in_nothing n f
 in_list n f (x ∷ l) d low =

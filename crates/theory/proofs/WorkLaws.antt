@@ -14,7 +14,7 @@ use lib.Dec.{eqb}
 use lib.ListN.{length, get_or, length-append, length-map}
 use Rattle.theory.specs.Sets.{Is, Set, everyone, Mem, any, members, sum_below}
 use Rattle.theory.specs.Counts.{count_in, occ, Distinct}
-use Rattle.theory.specs.Theory.{Theory, WellFormed}
+use Rattle.theory.specs.Theory.{Theory, WellFormed, Kind, False, Atom, And, Or, Opaque, Absorbed}
 use Rattle.theory.specs.Edges.{occurrences, vertices, preds}
 use Rattle.theory.specs.Accepted.{leaf_entries, head_entries}
 use Rattle.theory.specs.Rows.{entries, stream, flat_map, body_keys, atom_keys, leaf_keys, atom_nodes, parents, by_body, shifted, node_succs}
@@ -28,7 +28,8 @@ use Rattle.theory.proofs.RowLaws.{rows_length, row_last, succs_atom, succs_node,
 use Rattle.theory.proofs.ClosureLaws.{closure_induct}
 use Rattle.theory.proofs.WorklistLaws.{worklist_end}
 use Rattle.theory.proofs.PassLaws.{cyclic_cone_enough, passed_founded, among_true}
-use Rattle.theory.specs.Work.{sum_in, sum_over, fact_heads, naming, parent_entries, body_heads, true_in_cone, work, charge}
+use Rattle.theory.specs.Work.{sum_in, names, fact_heads, naming, parent_entries, body_heads, true_in_cone, work}
+use Rattle.theory.specs.Charge.{sum_over, charge}
 use Rattle.theory.proofs.SumLaws.{sum_none, sum_constant, sum_add, sum_swap, sum_split, in_le, in_same, over_some, over_all, over_members}
 
 -- ---- how much there can be
@@ -59,7 +60,7 @@ keys_few keys rows items =
     omega arith
 
 -- one term of the sum at most is not 0
-pub sum_at : (n k c : ℕ) → sum_below n (λ m. cond (eqb k m) c 0) ≤ c
+sum_at : (n k c : ℕ) → sum_below n (λ m. cond (eqb k m) c 0) ≤ c
 unfolding sum_below
 sum_at zero k c = omega arith
 sum_at (suc n) k c = go (ℕ_discrete k n) (sum_at n k c)
@@ -72,12 +73,28 @@ sum_at (suc n) k c = go (ℕ_discrete k n) (sum_at n k c)
     go (no e) rest = let a : cond (eqb k n) c 0 ≡ 0 = ap (λ (b : Bool). cond b c 0) (ne_eqb k n e) in omega arith
 
 module _ (th : Theory) where
+  naming_keys : (a : ℕ) → naming th a ≡ sum_below th.nodes (λ n. occ a (atom_keys th (th.kind n) n))
+  unfolding naming sum_in names atom_keys count_in
+  naming_keys a = sum_same th.nodes (λ n. cond (names (th.kind n) (th.operand n) a) 1 0) (λ n. occ a (atom_keys th (th.kind n) n)) (λ n l. one n (th.kind n))
+    where
+      one : (n : ℕ) (k : Kind) → cond (names k (th.operand n) a) 1 0 ≡ occ a (atom_keys th k n)
+      one n False = refl
+      one n Atom = refl
+      one n And = refl
+      one n Or = refl
+      one n Opaque = refl
+      one n Absorbed = refl
+
   naming_few : sum_below th.atoms (naming th) ≤ th.nodes
-  unfolding naming atom_nodes
-  naming_few = let a = keys_few (λ n. atom_keys th (th.kind n) n) th.atoms th.nodes in let b = atom_nodes_few th in omega arith
+  unfolding atom_nodes
+  naming_few =
+      let e = sum_same th.atoms (naming th) (λ r. sum_below th.nodes (λ n. occ r (atom_keys th (th.kind n) n))) (λ r l. naming_keys r) in
+      let a = keys_few (λ n. atom_keys th (th.kind n) n) th.atoms th.nodes in
+      let b = atom_nodes_few th in
+      omega arith
 
   parents_sum : sum_below th.nodes (parent_entries th) ≤ leaf_entries th
-  unfolding parent_entries parents
+  unfolding parent_entries leaf_keys parents
   parents_sum = let a = keys_few (λ n. leaf_keys th (th.kind n) n) th.nodes th.nodes in let b = parents_few th in omega arith
 
   -- a producer is a fact or has one body
@@ -174,15 +191,16 @@ module _ (th : Theory) where
               ap (λ (b : Bool). length (flat_map th.heads (cond b (n ∷ []) []))) (ne_eqb m k e)
               ∙ sym (ap (λ (b : Bool). cond b (length (th.heads n)) 0) (ne_eqb (suc k) (suc m) (λ q. e (omega arith))))
 
-  pub charge_atom : (a : ℕ) → a < th.atoms → charge th a ≡ 1 + naming th a
-  unfolding charge naming atom_nodes
+  charge_atom : (a : ℕ) → a < th.atoms → charge th a ≡ 1 + naming th a
+  unfolding charge atom_nodes
   charge_atom a l =
       let p = ap length (succs_atom th a l) ∙ length-map (entries a (atom_nodes th)) (λ n. th.atoms + n) in
       let q = row_length (λ n. atom_keys th (th.kind n) n) th.nodes a in
+      let r = naming_keys th a in
       omega arith
 
-  pub charge_node : (n : ℕ) → charge th (th.atoms + n) ≡ 1 + parent_entries th n + body_heads th n
-  unfolding charge parent_entries body_heads node_succs parents by_body
+  charge_node : (n : ℕ) → charge th (th.atoms + n) ≡ 1 + parent_entries th n + body_heads th n
+  unfolding charge parent_entries leaf_keys body_heads node_succs parents by_body
   charge_node n =
       let e : th.atoms + n - th.atoms ≡ n = omega arith in
       let p = ap length (succs_node th (th.atoms + n) (omega arith)) ∙ ap (λ (k : ℕ). length (node_succs th k)) e in
@@ -226,7 +244,7 @@ module _ (th : Theory) where
         let p = among_true th (cyclic th) (cyclic_cone th) never atom_never ok n l (cyclic_cone_enough th ok never atom_never) in
         same_test (found (th.atoms + n)) (true_in_cone th never atom_never n) (λ q. and_intro (p.0 q).0 (p.0 q).1) (λ q. p.1 (and_left (cyclic_cone th n) _ q, and_right (cyclic_cone th n) _ q))
 
-    pub work_vertices : work th never atom_never ≡ fact_heads th + sum_in (vertices th) (passed th (cyclic_cone th) never atom_never) (charge th)
+    work_vertices : work th never atom_never ≡ fact_heads th + sum_in (vertices th) (passed th (cyclic_cone th) never atom_never) (charge th)
     unfolding work vertices sum_in
     work_vertices =
         let a = sum_split th.atoms th.nodes (λ v. cond (found v) (charge th v) 0) in
@@ -234,13 +252,13 @@ module _ (th : Theory) where
         let c = in_same th.nodes (λ n. found (th.atoms + n)) (true_in_cone th never atom_never) (λ n. charge th (th.atoms + n)) (λ n. 1 + parent_entries th n + body_heads th n) found_node (λ n l. charge_node n) in
         omega arith
 
-    pub work_so_far : (order : List ℕ) → Distinct order → ((v : ℕ) → Mem v order → Is (passed th (cyclic_cone th) never atom_never v)) → fact_heads th + sum_over (charge th) order ≤ work th never atom_never
+    work_so_far : (order : List ℕ) → Distinct order → ((v : ℕ) → Mem v order → Is (passed th (cyclic_cone th) never atom_never v)) → fact_heads th + sum_over (charge th) order ≤ work th never atom_never
     work_so_far order once in' =
         let a = over_some (vertices th) found (charge th) order once (λ v m. (found_low v (in' v m), in' v m)) in
         let b = work_vertices in
         omega arith
 
-    pub work_done : (order : List ℕ) → Distinct order → ((v : ℕ) → Mem v order → Is (passed th (cyclic_cone th) never atom_never v)) → ((v : ℕ) → Is (passed th (cyclic_cone th) never atom_never v) → Mem v order)
+    work_done : (order : List ℕ) → Distinct order → ((v : ℕ) → Mem v order → Is (passed th (cyclic_cone th) never atom_never v)) → ((v : ℕ) → Is (passed th (cyclic_cone th) never atom_never v) → Mem v order)
         → fact_heads th + sum_over (charge th) order ≡ work th never atom_never
     work_done order once in' all =
         let a = over_all (vertices th) found (charge th) order once (λ v m. (found_low v (in' v m), in' v m)) (λ v l p. all v p) in

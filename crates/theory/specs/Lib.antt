@@ -19,6 +19,7 @@ pub mod Closure
 pub mod Worklist
 pub mod Pass
 pub mod Work
+pub mod Charge
 pub mod Components
 pub mod Search
 pub mod Prefix

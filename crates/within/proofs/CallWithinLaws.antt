@@ -1,15 +1,15 @@
 -- The contract of the pass within an allowance, from the lone pass's: a refusal of the pass (`within_refused`), success (`within_done`), and 15 (`within_exceeded`). Its place is small where the pass's is (`within_place`).
 use mathlib.Core.Path.{◌≡◌, refl, sym, ◌∙◌}
-use mathlib.Core.Bool.{Bool, true, false, cond}
+use mathlib.Core.Bool.{false}
 use mathlib.Core.List.{List}
-use Prim.Native.Nat.{ℕ, ◌+◌, ◌-◌, ◌<◌}
+use Prim.Native.Nat.{ℕ, ◌+◌, ◌<◌}
 use native.Mathlib.Omega.{arith}
 use Rattle.std.proofs.lemmas.Bool.{lt-ltb, le-ltb}
 use lib.Dec.{eqb, ltb}
 use lib.ListN.{length, replicate}
-use Rattle.std.specs.Prelude.{Result, Ok, Err}
+use Rattle.std.specs.Prelude.{Ok, Err}
 use Rattle.theory.specs.Accepted.{Edition}
-use Rattle.refusals.specs.Answer.{Answer, accept, refuse, refuse_if}
+use Rattle.refusals.specs.Answer.{accept, refuse, refuse_if}
 use Rattle.refusals.specs.Refusals.{refused_as}
 use Rattle.refusals.specs.declared.Refusal.{Refusal}
 use Rattle.refusals.specs.declared.Refusal.TheVariants.{Edition as EditionRefused, Counts, Size, Node, Producer, Link, Back, Leaf, Head, Entries}

@@ -2,7 +2,7 @@
 -- (`stops_early`) or on the queue, or the worklist comes to its end and the work is paid for (`settled`).
 use mathlib.Core.Path.{◌≡◌, refl, ap, ◌∙◌}
 use mathlib.Core.List.{List, [], append-nil}
-use Prim.Native.Nat.{ℕ, ◌+◌, ◌-◌, ◌≤◌, ◌<◌}
+use Prim.Native.Nat.{ℕ, ◌+◌, ◌-◌, ◌≤◌}
 use native.Mathlib.Omega.{arith}
 use lib.ListN.{length, get_or, drop}
 use Rattle.std.proofs.lemmas.List.{drop-take}
@@ -24,7 +24,7 @@ use Rattle.area.specs.declared.Bases.{Bases}
 use Rattle.area.specs.Views.{count_at, queued}
 use Rattle.area.proofs.ListLaws.{list_entry}
 use Rattle.rows.specs.Rows.{Named}
-use Rattle.events.specs.Run.{Running, Ran}
+use Rattle.events.specs.Run.{Ran}
 use Rattle.events.proofs.RunLaws.{graph_serves}
 use Rattle.cones.specs.declared.Cone.{Cone}
 use Rattle.cones.proofs.FactLaws.{fact_mem}

@@ -1,7 +1,7 @@
 -- A count in two parts is paid for part by part (`pays_more`, `pays_none`). What is counted: the heads of producers, one producer after the other (`heads_turn`, `heads_end`), and
 -- a vertex with its row in the tables (`atom_charge`, `node_charge`).
-use mathlib.Core.Path.{◌≡◌, refl, sym, ap, ◌∙◌}
-use mathlib.Core.List.{List, ◌++◌}
+use mathlib.Core.Path.{◌≡◌, refl, ap, ◌∙◌}
+use mathlib.Core.List.{List}
 use Prim.Native.Nat.{ℕ, ◌+◌, ◌-◌, ◌≤◌, ◌<◌}
 use native.Mathlib.Omega.{arith}
 use lib.ListN.{length, get_or, length-append, length-map}
@@ -16,7 +16,7 @@ use Rattle.area.specs.Views.{as_vertices}
 use Rattle.adjacency.specs.Tables.{start_at, row_at}
 use Rattle.rows.specs.Rows.{Spanned, Tables}
 use Rattle.rows.proofs.VertexLaws.{atom_row, node_row}
-use Rattle.theory.specs.Work.{charge}
+use Rattle.theory.specs.Charge.{charge}
 use Rattle.within.specs.Within.{Pays, heads_in}
 
 module _ (allowance a b : ℕ) {n : ℕ} (e : n ≡ a + b) where

@@ -9,7 +9,7 @@ use Rattle.theory.specs.Words.{theory_of}
 use Rattle.theory.specs.Prefix.{upto}
 use Rattle.area.specs.declared.Bases.{Bases}
 use Rattle.area.specs.Views.{queued}
-use Rattle.theory.specs.Work.{charge, sum_over}
+use Rattle.theory.specs.Charge.{sum_over, charge}
 use Rattle.within.specs.Within.{spent}
 use Rattle.theory.proofs.WorkLaws.{over_upto}
 

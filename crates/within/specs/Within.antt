@@ -6,7 +6,8 @@ use Rattle.theory.specs.Sets.{Set}
 use Rattle.theory.specs.Words.{theory_of}
 use Rattle.theory.specs.Rows.{flat_map, succs}
 use Rattle.theory.specs.Founded.{missing}
-use Rattle.theory.specs.Work.{sum_over, charge, work}
+use Rattle.theory.specs.Work.{work}
+use Rattle.theory.specs.Charge.{sum_over, charge}
 use Rattle.area.specs.declared.Bases.{Bases}
 use Rattle.area.specs.Views.{count_at, queued}
 use Rattle.events.specs.Run.{Ran}

@@ -1,5 +1,5 @@
 -- What the pass within an allowance answers and leaves (document 02, request 8): the rows of the pass, and 15 after them.
-use Rattle.std.specs.Prelude.{◌≡◌, Bool, cond, List, ℕ, ◌-◌, eqb, ltb, length, Result, Ok, Err}
+use Rattle.std.specs.Prelude.{◌≡◌, cond, List, ℕ, ◌-◌, eqb, ltb, length, Result, Ok, Err}
 use Rattle.theory.specs.Words.{theory_of, bit_at}
 use Rattle.theory.specs.Accepted.{Edition}
 use Rattle.theory.specs.Work.{work}

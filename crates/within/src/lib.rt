@@ -7,7 +7,7 @@ ghost use Rattle.theory.specs.Words.{theory_of, bit_at};
 ghost use Rattle.theory.specs.Rows.{succs};
 ghost use Rattle.theory.specs.Founded.{cyclic, cyclic_cone};
 ghost use Rattle.theory.specs.Accepted.{Accepted, area_of};
-ghost use Rattle.theory.specs.Work.{charge};
+ghost use Rattle.theory.specs.Charge.{charge};
 ghost use Rattle.refusals.specs.Answer.{accept};
 ghost use Rattle.refusals.specs.Refusals.{graph_answer};
 ghost use Rattle.rows.specs.Rows.{Named};

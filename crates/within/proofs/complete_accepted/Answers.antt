@@ -1,6 +1,6 @@
-use mathlib.Core.Path.{◌≡◌, refl, ap, ◌∙◌}
+use mathlib.Core.Path.{refl, ap, ◌∙◌}
 use native.Mathlib.Omega.{arith}
-use lib.ListN.{length, replicate}
+use lib.ListN.{replicate}
 use Rattle.refusals.proofs.AcceptedLaws.{accepted}
 use Rattle.words.proofs.NumberLaws.{numbers_length}
 use Rattle.preparation.proofs.StageLaws.{stood_standing}
@@ -23,9 +23,10 @@ pass_within-requires g c = (accepted g.W.Word.edition (g.W.Word.numbers c.args.g
 
 pub hand_out-requires : goal.hand_out-requires
 hand_out-requires g c =
-    let k = stood_standing _ _ _ _ _ _ _ c.in-Ok.ensures in
-    (omega (arith, numbers_length g.met.W.Word.each c.args.work.now, c.in-Some.ensures.size, k.size, c.bases_of-b.ensures.laid, c.bases_of-b.ensures.ends),
-      output_words _ _ (output_fits _ _ _ _ c.requires.1) ∙ rw c.bases_of-b.ensures.atoms)
+    let k = stood_standing _ _ _ _ _ _ _ c.in-Ok.ensures in (
+      omega (arith, numbers_length g.met.W.Word.each c.args.work.now, c.in-Some.ensures.size, k.size, c.bases_of-b.ensures.laid, c.bases_of-b.ensures.ends),
+      output_words _ _ (output_fits _ _ _ _ c.requires.1) ∙ rw c.bases_of-b.ensures.atoms,
+    )
 
 pub returns-in-Some : goal.returns-in-Some
 returns-in-Some g c =

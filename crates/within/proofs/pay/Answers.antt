@@ -1,4 +1,4 @@
-use Prim.Native.Nat.{◌+◌, ◌-◌, ◌<◌}
+use Prim.Native.Nat.{◌-◌}
 use native.Mathlib.Omega.{arith}
 use Rattle.rows.proofs.VertexLaws.{atom_spanned, parents_spanned, body_spanned, body_named}
 use Rattle.within.proofs.PayLaws.{pays_more, pays_none, atom_charge, node_charge}

@@ -1,5 +1,4 @@
-use mathlib.Core.Path.{◌≡◌, refl}
-use Prim.Native.Nat.{◌+◌, ◌<◌}
+use mathlib.Core.Path.{◌≡◌}
 use native.Mathlib.Omega.{arith}
 use Rattle.area.proofs.PartLaws.{frame_less, outside_none, outside_then}
 use Rattle.events.proofs.RunLaws.{graph_abides, tail_low, head_low, run_follows, run_grows, run_outside, run_queue, run_next}
