@@ -191,6 +191,7 @@ fn find_in<W: Word, S: Wanted<W>>(graph: &[W], work: &mut [W], b: Bases, wanted:
 
 // The same, with the bases worked out here (`area::bases_of` says why). So do events::settle_all and preparation::mark: one function for the three would be handed a closure, with
 // its clauses at each of them, for these two lines.
+#[inline(never)]
 fn find<W: Word, S: Wanted<W>>(graph: &[W], work: &mut [W], wanted: S) -> Cone
     requires { Given W.edition S.reads (W.numbers graph.now) (bases_of (W.numbers graph.now) (length (W.numbers work.old))) (W.numbers work.old) }
     ensures { Searched (theory_of (W.numbers graph.now)) (S.set (theory_of (W.numbers graph.now))) (bases_of (W.numbers graph.now) (length (W.numbers work.old))) (W.numbers work.old) (W.numbers work.new) result }
@@ -220,6 +221,7 @@ fn first_refused<W: Word>(graph: &[W], work: &[W], b: Bases) -> Option<usize>
 }
 
 // The body cone (document 01: the first cone), with the facts that have a head.
+#[inline(always)]
 pub fn body_cone<W: Word>(graph: &[W], work: &mut [W], b: Bases) -> Result<Cone, Absorbed>
     requires { Accepted W.edition (W.numbers graph.now) × Based (W.numbers graph.now) (length (W.numbers work.old)) b }
     ensures { Kept b (W.numbers work.old) (W.numbers work.new) × body_coned (theory_of (W.numbers graph.now)) b (W.numbers work.new) result }
@@ -232,6 +234,7 @@ pub fn body_cone<W: Word>(graph: &[W], work: &mut [W], b: Bases) -> Result<Cone,
 }
 
 // The cyclic cone (document 01: the second cone).
+#[inline(always)]
 pub fn cyclic_cone<W: Word>(graph: &[W], work: &mut [W], b: Bases) -> Cone
     requires { Accepted W.edition (W.numbers graph.now) × Based (W.numbers graph.now) (length (W.numbers work.old)) b × Flagged (theory_of (W.numbers graph.now)) b (W.numbers work.old) }
     ensures { Kept b (W.numbers work.old) (W.numbers work.new) × cyclic_coned (theory_of (W.numbers graph.now)) b (W.numbers work.new) result }

@@ -80,6 +80,7 @@ impl<W: Word> Step<W> for Activate {
 
     ghost kept = { λ it. it.bases.dependencies };
 
+    #[inline(always)]
     fn step(self, work: &mut [W], a: usize, tail: usize) -> usize {
         let b = self.bases;
         if words::at(work, b.dependencies + a) == 0 {
@@ -104,6 +105,7 @@ impl<W: Word> Step<W> for Facts<'_, W> {
 
     ghost kept = { λ it. it.bases.dependencies };
 
+    #[inline(always)]
     fn step(self, work: &mut [W], p: usize, tail: usize) -> usize {
         chains::heads(self.graph, work, Activate { bases: self.bases }, p, tail)
     }
@@ -166,6 +168,7 @@ impl<W: Word> Step<W> for Nodes<'_, W> {
 
     ghost kept = { λ it. it.bases.dependencies };
 
+    #[inline(always)]
     fn step(self, work: &mut [W], n: usize, tail: usize) -> usize {
         let b = self.bases;
         let vertex = b.atoms + n;
@@ -184,6 +187,7 @@ impl<W: Word> Step<W> for Nodes<'_, W> {
 }
 
 // A list of the work area from its end, a step for each entry. No step changes the list.
+#[inline(always)]
 fn backwards<W: Word, S: Step<W>>(
     work: &mut [W],
     step: S,
@@ -203,6 +207,7 @@ fn backwards<W: Word, S: Step<W>>(
 }
 
 // The counts of all vertices, and the queue of those found at once; the answer is its length.
+#[inline(always)]
 pub fn start<W: Word>(
     graph: &[W],
     never: &[u64],

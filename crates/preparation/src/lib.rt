@@ -19,6 +19,7 @@ use finishing::NEW;
 use words::Word;
 
 // The four row tables.
+#[inline(always)]
 pub fn build_rows<W: Word>(graph: &[W], work: &mut [W], b: Bases)
     requires { Accepted W.edition (W.numbers graph.now) × Based (W.numbers graph.now) (length (W.numbers work.old)) b }
     ensures { Rowed (W.numbers graph.now) b (W.numbers work.old) (W.numbers work.new) }
@@ -69,6 +70,7 @@ pub fn cyclic_atoms<W: Word>(graph: &[W], work: &mut [W], b: Bases) -> Result<()
 }
 
 // All that a pass goes by: the rows, the flags of the cyclic atoms, and the cyclic cone.
+#[inline(always)]
 pub fn stand<W: Word>(graph: &[W], work: &mut [W], b: Bases) -> Result<Cone, Absorbed>
     requires { Accepted W.edition (W.numbers graph.now) × Based (W.numbers graph.now) (length (W.numbers work.old)) b }
     ensures { Stood (W.numbers graph.now) b (cyclic (theory_of (W.numbers graph.now))) (cyclic_cone (theory_of (W.numbers graph.now))) (W.numbers work.old) (W.numbers work.new) result }
@@ -78,6 +80,7 @@ pub fn stand<W: Word>(graph: &[W], work: &mut [W], b: Bases) -> Result<Cone, Abs
 }
 
 // A pass, whatever is marked: what is founded is settled, and an atom that is left unfounded still waits. Counts and queue are written, nothing else.
+#[inline(always)]
 pub fn pass<W: Word>(
     graph: &[W],
     never: &[u64],
