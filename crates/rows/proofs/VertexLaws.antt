@@ -25,7 +25,7 @@ mem_get_d [] i h = absurd (omega arith)
 mem_get_d (x ∷ l) zero h = Memᴰ.head refl
 mem_get_d (x ∷ l) (suc i) h = Memᴰ.tail (mem_get_d l i (omega arith))
 
-slice_mem : (f t : ℕ) (w : List ℕ) (i : ℕ) → f ≤ i → i < t → t ≤ length w → Mem (get_or w i 0) (slice f t w)
+pub slice_mem : (f t : ℕ) (w : List ℕ) (i : ℕ) → f ≤ i → i < t → t ≤ length w → Mem (get_or w i 0) (slice f t w)
 slice_mem f t w i a c e =
     let k : f + (i - f) ≡ i = omega arith in
     rw (get_or-drop f (take t w) (i - f) 0 ∙ ap (λ (j : ℕ). get_or (take t w) j 0) k ∙ get_or-take t w i 0 c)

@@ -22,10 +22,10 @@ use Rattle.theory.proofs.RowLaws.{succs_preds, succs_low}
 
 -- ---- the entries that lie in a set
 
-kept_in : (s : Set) (x : ℕ) (l : List ℕ) → Is (s x) → filter s (x ∷ l) ≡ x ∷ filter s l
+pub kept_in : (s : Set) (x : ℕ) (l : List ℕ) → Is (s x) → filter s (x ∷ l) ≡ x ∷ filter s l
 kept_in s x l e = ap (λ (y : Bool). cond y (x ∷ filter s l) (filter s l)) e
 
-kept_out : (s : Set) (x : ℕ) (l : List ℕ) → s x ≡ false → filter s (x ∷ l) ≡ filter s l
+pub kept_out : (s : Set) (x : ℕ) (l : List ℕ) → s x ≡ false → filter s (x ∷ l) ≡ filter s l
 kept_out s x l e = ap (λ (y : Bool). cond y (x ∷ filter s l) (filter s l)) e
 
 -- a member of the set is left as often as it was there

@@ -1,0 +1,4 @@
+pub mod PartLaws
+pub mod ListLaws
+pub mod StageLaws
+pub mod CallLaws

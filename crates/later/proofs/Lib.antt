@@ -1,0 +1,5 @@
+pub mod ReadLaws
+pub mod ServeLaws
+pub mod ResetLaws
+pub mod BeginLaws
+pub mod SeedLaws

@@ -1,0 +1,7 @@
+pub mod KeepLaws
+pub mod RowingLaws
+pub mod WeightLaws
+pub mod SourceLaws
+pub mod RoomLaws
+pub mod RoleLaws
+pub mod PartingLaws
