@@ -15,8 +15,8 @@ use cycles::NeedError;
 use founded::CallError;
 use numbers::Numbered;
 use refusals::Refusal;
-use undecided::OpenError;
 use std::cmp::Ordering;
+use undecided::OpenError;
 use within::WithinError;
 
 pub trait Code: Copy {
