@@ -120,7 +120,7 @@ impl Explanation {
 /// The rules, or where they are large the rules with those that are added, have no room in any edition.
 pub fn unproduced(program: &Program, cuts: &Cuts) -> Result<Vec<usize>, Failure> {
     let laid = Laid::of(program).map_err(Failure::Refused)?;
-    let list = unproduced::unproduced(&laid, cuts, &[]);
+    let list = unproduced::list(&laid, cuts, &[]);
     list.map_err(|error| Failure::Refused(laid.told(program, error)))
 }
 
@@ -172,16 +172,16 @@ fn mistaken<'a>(parts: &'a [Part], rules: &unfounded::Rules<'_>) -> Option<&'a P
     None
 }
 
-/// What falls with each part, where the rules have room with what [`unproduced::unproduced`] adds.
+/// What falls with each part, where the rules have room with what [`unproduced::list`] adds.
 fn fill_falls(parts: &mut [Part], laid: &Laid, cuts: &Cuts) {
     if parts.is_empty() {
         return;
     }
-    let Ok(before) = unproduced::unproduced(laid, cuts, &[]) else {
+    let Ok(before) = unproduced::list(laid, cuts, &[]) else {
         return;
     };
     for part in parts {
-        let Ok(after) = unproduced::unproduced(laid, cuts, &part.states) else {
+        let Ok(after) = unproduced::list(laid, cuts, &part.states) else {
             return;
         };
         let is_in = |list: &[usize], state: &usize| list.binary_search(state).is_ok();

@@ -9,7 +9,7 @@ use crate::{AtomId, Error, Graph, Solver, WideGraph};
 ///
 /// # Errors
 /// No edition has room for the rules.
-pub fn unproduced(laid: &Laid, cuts: &Cuts, facts: &[usize]) -> Result<Vec<usize>, Error> {
+pub fn list(laid: &Laid, cuts: &Cuts, facts: &[usize]) -> Result<Vec<usize>, Error> {
     let mut laid = laid.clone();
     if !facts.is_empty() {
         let facts: Vec<AtomId> = facts.iter().map(|&state| atom(state)).collect();
