@@ -37,7 +37,7 @@ Several files are read together, as one. aspif, which gringo --output=intermedia
 
     --cut NAME        rules out a state, an #external or a `not x`; may be given several times
     --cut FILE:LINE   rules out the bodies of the rules on that line
-    --unproduced      names the states that nothing produces too, on a loop or not: they hold by no rule whose conditions hold
+    --unproduced      names the states that nothing produces too, on a loop or not
     --json            prints JSON
     --dot             prints the missing states and their rules for graphviz
     --svg FILE        draws them into FILE
