@@ -295,7 +295,7 @@ fn random_rule_files() {
 }
 
 /// The list of what nothing produces, as plain code has it, and in both ways that the crate has: by the call, and by the missing list of the rules with `a :- a` for each state. The second
-/// is taken in either edition: on rules to which these are added, and where so many facts are added that edition 1 has no room.
+/// is taken in either edition: on rules to which these are added, and where so many facts are added that edition 1 has no room, for them or for what falls with a circle.
 #[test]
 fn what_nothing_produces() {
     let facts: String = (0..1_025).map(|n| format!("fact({n}).\n")).collect();
@@ -321,10 +321,14 @@ fn what_nothing_produces() {
         let explained = Explanation::of(&with_loops, &cuts).unwrap();
         assert_eq!(explained.missing, list, "{text}");
 
-        let wide = read(&format!("{text}{facts}"));
-        assert_eq!(unproduced(&wide, &cuts).unwrap(), list, "{text}");
-        let explained = Explanation::of(&wide, &cuts).unwrap();
-        assert_eq!(explained.parts, explanation.parts);
+        // More than edition 1 has room for, and just so many rules that one more has no room.
+        let one = "fact(0).\n".repeat(1_024 - program.rules().len());
+        for facts in [&facts, &one] {
+            let more = read(&format!("{text}{facts}"));
+            assert_eq!(unproduced(&more, &cuts).unwrap(), list, "{text}");
+            let explained = Explanation::of(&more, &cuts).unwrap();
+            assert_eq!(explained.parts, explanation.parts);
+        }
 
         some += usize::from(!list.is_empty());
         more += usize::from(list.len() > explanation.missing.len());

@@ -576,12 +576,12 @@ fn what_nothing_produces_among_many() {
     assert!(lines[2].ends_with(" s(1099) lamp"));
     assert_eq!(
         lines[lines.len() - 1],
-        "The first two lines are proved. The third is the proved missing list of the rules with `a :- a` added for each state a. \
+        "The first two lines are proved, and the third as the missing list of these rules with `a :- a` added for each state a. \
          What is told of the circles is not, but each was checked against the rules."
     );
     let json = run(&["check", "--unproduced", "--json"], &rules).stdout;
     assert!(
-        json.contains("  \"proved\": \"loops and missing are proved; unproduced is the proved missing list of the rules with `a :- a` added for each state a; "),
+        json.contains("  \"proved\": \"loops and missing are proved, and unproduced as the missing list of these rules with `a :- a` added for each state a; "),
         "{json}"
     );
 

@@ -9,7 +9,7 @@ fn proved(report: &Report<'_>) -> String {
         None => "loops and missing are proved",
         Some(_) if report.is_narrow() => "loops, missing and unproduced are proved",
         Some(_) => {
-            "loops and missing are proved; unproduced is the proved missing list of the rules with `a :- a` added for each state a"
+            "loops and missing are proved, and unproduced as the missing list of these rules with `a :- a` added for each state a"
         }
     };
     format!("{lists}; what is told of the circles is not, but each was checked against the rules")

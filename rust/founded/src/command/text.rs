@@ -14,7 +14,7 @@ fn proved(report: &Report<'_>) -> &'static str {
         None => "The first two lines are proved.",
         Some(_) if report.is_narrow() => "The first three lines are proved.",
         Some(_) => {
-            "The first two lines are proved. The third is the proved missing list of the rules with `a :- a` added for each state a."
+            "The first two lines are proved, and the third as the missing list of these rules with `a :- a` added for each state a."
         }
     }
 }
