@@ -16,18 +16,18 @@
  *
  * Lengths that pass: graph 5 + 3N + 2P + 2K words; never (the node mask) and open up to FOUNDED_MASK_WORDS(N); atom_never (the atom mask) and atom_open up to
  * FOUNDED_MASK_WORDS(A); output, always and sometimes FOUNDED_MASK_WORDS(A); work FOUNDED_WORK_WORDS in edition 1, and in edition 2 what founded_wide_work_words gives for the graph. Every other length is an answer: 1 or 3
- * of the graph, 10 of masks and output, 11 of the work area.
+ * of the graph, 10 of masks and output, 11 of the work area. founded_branch has lengths of its own: see there.
  * Bit i of word w of a mask, lowest first, stands for 64w + i. A set bit is a cut: ruled out. A bit past the mask's end is no cut: trailing zero words may be left out,
  * all of them too. Bits past the last number are ignored where they are read and 0 where they are written.
  *
  * A refusal's code is number * 2^16 + place in 32 bits, and of a wide call number * 2^32 + place in 64 bits: FOUNDED_NUMBER and FOUNDED_PLACE take the one apart,
  * FOUNDED_WIDE_NUMBER and FOUNDED_WIDE_PLACE the other. Of several refusals that apply the first in the table's order is given: that of the numbers, but 14 stands
- * between 6 and 7, and 21 between 10 and 11. What a call leaves:
+ * between 6 and 7, 13 between 9 and 10, and 21 between 10 and 11. What a call leaves:
  *
- *   outcome         output                  work area
- *   success         the list, each word     all zero
- *   1 to 11, 14, 21 as it was               as it was
- *   12, 15          as it was               all zero
+ *   outcome             output                  work area
+ *   success             the list, each word     all zero
+ *   1 to 11, 13, 14, 21 as it was               as it was
+ *   12, 15              as it was               all zero
  *
  * What output and work area held before has no effect. Graph and masks are never written.
  */
@@ -44,6 +44,11 @@
 #define FOUNDED_WIDE_MOST_ENTRIES 1048576
 
 #define FOUNDED_WORK_WORDS 32768
+
+/* Of a search branch: the most pairs of masks, and the words of its work area. */
+#define FOUNDED_MOST_PAIRS 64
+#define FOUNDED_BRANCH_WORK_WORDS 49152
+
 #define FOUNDED_MASK_WORDS(count) (((size_t)(count) + 63) / 64)
 
 /* 1 if the code has so many bytes; if not, it does not compile: no array has -1 elements. */
@@ -73,10 +78,12 @@ enum founded_refusal {
     FOUNDED_LEAF = 7,      /* a leaf not below its own node's number. Place: the first such node */
     FOUNDED_HEAD = 8,      /* a head not below A. Place: the first such producer */
     FOUNDED_ENTRIES = 9,   /* more than 4,096 leaf entries or more than 4,096 head entries; in edition 2 more than 1,048,576 */
-    FOUNDED_LENGTHS = 10,  /* the node mask has more than FOUNDED_MASK_WORDS(N) words, or the atom mask more than FOUNDED_MASK_WORDS(A), or the output not exactly so many */
-    FOUNDED_WORK = 11,     /* the work area is not exactly 32,768 16-bit words; in edition 2 not exactly 16(A + N + P + 1) + 4(leaf entries + head entries)
+    FOUNDED_LENGTHS = 10,  /* the node mask has more than FOUNDED_MASK_WORDS(N) words, or the atom mask more than FOUNDED_MASK_WORDS(A), or the output not exactly so many;
+                              of founded_branch each not exactly so many for each pair */
+    FOUNDED_WORK = 11,     /* the work area is not exactly 32,768 16-bit words, of founded_branch 49,152; in edition 2 not exactly 16(A + N + P + 1) + 4(leaf entries + head entries)
                               32-bit words */
     FOUNDED_ABSORBED = 12, /* the body cone holds a node of kind 7. Place: the first such node */
+    FOUNDED_PAIRS = 13,    /* founded_branch alone: no pair, or more than 64; given after 9 and before 10, whatever the lengths */
     FOUNDED_COMES_BACK = 14, /* a chain comes back to one of its own links; given after 6 and before 7. Place: the first node whose leaf chain does, or where none does,
                               the first producer whose head chain does. The code does not say which: it is a node if that node's chain has not ended after K links */
     FOUNDED_ALLOWANCE = 15, /* founded_complete_within alone: the count exceeds the allowance; given after 12 */
@@ -123,6 +130,14 @@ uint64_t founded_wide_complete(const uint32_t *graph, size_t graph_len, const ui
  * cut atoms and cut nodes taken as false and opaque nodes as true unless cut. Each atom on the pass's list is on this one. Or the code of a refusal of 1 to 12 or 14. */
 uint32_t founded_unfounded(const uint16_t *graph, size_t graph_len, const uint64_t *never, size_t never_len, const uint64_t *atom_never,
                            size_t atom_never_len, uint64_t *output, size_t output_len, uint16_t *work, size_t work_len);
+
+/* A search branch: the pass for 1 to FOUNDED_MOST_PAIRS pairs of masks on one graph, which is checked and prepared once. 0, and the output lists the missing atoms of each pair, each list as
+ * founded_complete gives it for that pair alone; or the code of a refusal of 1 to 14. Node masks, atom masks and lists are laid end to end, each at its full length: never has exactly
+ * pairs * FOUNDED_MASK_WORDS(N) words, atom_never and output exactly pairs * FOUNDED_MASK_WORDS(A) each, and work exactly FOUNDED_BRANCH_WORK_WORDS. Pair k has the words from
+ * k * FOUNDED_MASK_WORDS(N) on of never, and so on. The number of pairs is told by the argument alone: with no node and no atom no length tells it.
+ * A pair after the first takes a small part of a call of founded_complete. With more pairs than one call takes, fill a call before the next one: each checks and prepares anew. On graphs of edition 1 alone. */
+uint32_t founded_branch(const uint16_t *graph, size_t graph_len, size_t pairs, const uint64_t *never, size_t never_len, const uint64_t *atom_never,
+                        size_t atom_never_len, uint64_t *output, size_t output_len, uint16_t *work, size_t work_len);
 
 /* One order for graphs of edition 1, by content: 0 if the two have the same content, 1 if the first comes before the second, 2 if it comes after it; or the code of a refusal of
  * 1 to 9 or 14: the first graph's, or where that is accepted the second's. The code does not say whose it is: founded_check does. The two may be the same memory. A and N and P are

@@ -1,6 +1,7 @@
 -- A code that is made of an answer's number and place tells the answer (`told`). Preparation, pass and the list of what nothing produces, whose code tells their answer (`prepared_told`, `completed_told`, `unfounded_told`, `within_told`); over masks
 -- filled up with zero words the pass gives the same code and leaves the same words (`filled_told`). The loop test's number (`needed_told`): it tells the outcome, and on success it is 1 exactly if there is a closed walk. How many words the
--- work area has: `words_refused`, `words_accepted`. The place in the comparison's answer fits the low half (`compared_placed`). The call over all choices of undecided bits (`undecided_told`).
+-- work area has: `words_refused`, `words_accepted`. The place in the comparison's answer fits the low half (`compared_placed`). The call over all choices of undecided bits (`undecided_told`). A search branch
+-- (`branched_told`).
 use mathlib.Core.Path.{◌≡◌, refl, sym, ap, ◌∙◌}
 use mathlib.Core.Logic.{◌↔◌}
 use mathlib.Core.Bool.{Bool, true, false, not, cond, true≢false}
@@ -26,10 +27,12 @@ use Rattle.compare.specs.Comparison.{Comparison, turned_away, in_order, refusal_
 use Rattle.founded.specs.declared.CallError.{CallError}
 use Rattle.founded.specs.Answers.{call_of, Prepares, Completes}
 use Rattle.founded.proofs.ShortLaws.{filled, filled_answer, filled_leaves}
-use Rattle.abi.specs.Codes.{code_of, Tells, NeedTells, Placed, Needed, PreparedAs, CompletedAs, work_words, UnfoundedAs, CompletedWithinAs, ComparisonPlaced, UndecidedAs}
+use Rattle.abi.specs.Codes.{code_of, Tells, NeedTells, Placed, Needed, PreparedAs, CompletedAs, work_words, UnfoundedAs, CompletedWithinAs, ComparisonPlaced, UndecidedAs, BranchedAs}
 use Rattle.within.specs.WithinAnswers.{CompletesWithin}
 use Rattle.undecided.specs.declared.OpenError.{OpenError}
 use Rattle.undecided.specs.Answers.{open_of, Undecides}
+use Rattle.branch.specs.declared.BranchError.{BranchError}
+use Rattle.branch.specs.Answers.{branch_of, Branches}
 use Rattle.unfounded.specs.Unproduced.{ListsUnfounded}
 
 pub told : {lim : ℕ} {a : Answer} {n p r : ℕ} → n ≡ a.number → p ≡ a.place → Tells lim (refuse n p) r → Tells lim a r
@@ -104,6 +107,11 @@ pub undecided_told : {lim : ℕ} {graph never atom_never open_nodes open_atoms a
     → Undecides graph never atom_never open_nodes open_atoms always sometimes work always' sometimes' work' a → Tells lim (open_of a) r
     → UndecidedAs lim graph never atom_never open_nodes open_atoms always sometimes work always' sometimes' work' r
 undecided_told h t = record { told = rw (← h.answer) t; leaves = rw (← h.answer) h.leaves }
+
+-- a search branch
+pub branched_told : {lim : ℕ} {graph : List ℕ} {pairs : ℕ} {never atom_never output work output' work' : List ℕ} {a : Result (Unit {0}) BranchError} {r : ℕ}
+    → Branches graph pairs never atom_never output work output' work' a → Tells lim (branch_of a) r → BranchedAs lim graph pairs never atom_never output work output' work' r
+branched_told h t = record { told = rw (← h.answer) t; leaves = rw (← h.answer) h.leaves }
 
 -- ---- the length of the work area
 

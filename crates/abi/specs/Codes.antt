@@ -13,6 +13,7 @@ use Rattle.founded.specs.Answers.{prepare_answer, complete_answer, PrepareLeaves
 use Rattle.unfounded.specs.Unproduced.{UnfoundedLeaves}
 use Rattle.within.specs.WithinAnswers.{within_answer, work_of, WithinLeaves}
 use Rattle.undecided.specs.Answers.{undecided_answer, UndecidedLeaves}
+use Rattle.branch.specs.Answers.{branch_answer, BranchLeaves}
 
 -- the number of the refusal in the high half and its place in the low one; success is 0
 abbrev pub code_of : (lim : ℕ) → Answer → ℕ
@@ -76,6 +77,11 @@ module _ (lim : ℕ) (ed : Edition) where
 pub record UndecidedAs (lim : ℕ) (graph never atom_never open_nodes open_atoms always sometimes work always' sometimes' work' : List ℕ) (r : ℕ) : Type 0 where
   pub told : Tells lim (undecided_answer graph never atom_never open_nodes open_atoms (length always) (length sometimes) (length work)) r
   pub leaves : UndecidedLeaves graph never atom_never open_nodes open_atoms always sometimes work always' sometimes' work' (undecided_answer graph never atom_never open_nodes open_atoms (length always) (length sometimes) (length work)).number
+
+-- a search branch, of edition 1 alone
+pub record BranchedAs (lim : ℕ) (graph : List ℕ) (pairs : ℕ) (never atom_never output work output' work' : List ℕ) (r : ℕ) : Type 0 where
+  pub told : Tells lim (branch_answer graph pairs (length never) (length atom_never) (length output) (length work)) r
+  pub leaves : BranchLeaves graph pairs never atom_never output work output' work' (branch_answer graph pairs (length never) (length atom_never) (length output) (length work)).number
 
 -- how many words the work area of an accepted graph has; 0 for a graph that is refused
 abbrev pub work_words : Edition → List ℕ → ℕ

@@ -9,8 +9,10 @@ ghost use Rattle.cycles.specs.Outcome.{outcome_of};
 ghost use Rattle.founded.specs.Answers.{call_of};
 ghost use Rattle.within.specs.WithinAnswers.{within_of};
 ghost use Rattle.undecided.specs.Answers.{open_of};
+ghost use Rattle.branch.specs.Answers.{branch_of};
 ghost use Rattle.abi.specs.Codes.{Tells, NeedTells, Placed, ComparisonTells, ComparisonPlaced};
 
+use branch::BranchError;
 use cycles::NeedError;
 use founded::CallError;
 use numbers::Numbered;
@@ -138,5 +140,23 @@ pub fn open_code<C: Code>(answered: Result<(), OpenError>) -> C
         Err(OpenError::Both) => C::of(21, 0),
         Err(OpenError::Work) => C::of(11, 0),
         Err(OpenError::Absorbed(n)) => C::of(12, n),
+    }
+}
+
+// A search branch.
+pub fn branched_code<C: Code>(answered: Result<(), BranchError>) -> C
+    requires { (branch_of answered).place < C.limit }
+    ensures { Tells C.limit (branch_of answered) (C.value result) }
+{
+    match answered {
+        Ok(()) => C::of(0, 0),
+        Err(BranchError::Refused(e)) => {
+            let told = Numbered::from(e);
+            C::of(told.number, told.place)
+        }
+        Err(BranchError::Pairs) => C::of(13, 0),
+        Err(BranchError::Lengths) => C::of(10, 0),
+        Err(BranchError::Work) => C::of(11, 0),
+        Err(BranchError::Absorbed(n)) => C::of(12, n),
     }
 }

@@ -9,10 +9,12 @@ pub mod wide;
 
 ghost use Rattle.theory.specs.Accepted.{edition1};
 ghost use Rattle.refusals.specs.Refusals.{graph_answer};
-ghost use Rattle.abi.specs.Codes.{Tells, Needed, PreparedAs, CompletedAs, CompletedWithinAs, UndecidedAs, UnfoundedAs, ComparisonTells};
+ghost use Rattle.abi.specs.Codes.{Tells, Needed, PreparedAs, CompletedAs, CompletedWithinAs, UndecidedAs, UnfoundedAs, ComparisonTells, BranchedAs};
 ghost use Rattle.compare.specs.Comparison.{comparison};
 
-use crate::codes::{call_code, checked_code, compared_code, needed_code, open_code, within_code};
+use crate::codes::{
+    branched_code, call_code, checked_code, compared_code, needed_code, open_code, within_code,
+};
 use within::Meter;
 
 // The graph check.
@@ -110,4 +112,19 @@ pub extern "C" fn founded_undecided(
     open_code(undecided::undecided(
         graph, never, atom_never, open_nodes, open_atoms, always, sometimes, work,
     ))
+}
+
+// A search branch: so many pairs of masks on one graph, and the missing list of each.
+#[unsafe(no_mangle)]
+pub extern "C" fn founded_branch(
+    graph: &[u16],
+    pairs: usize,
+    never: &[u64],
+    atom_never: &[u64],
+    output: &mut [u64],
+    work: &mut [u16],
+) -> u32
+    ensures { BranchedAs 65536 graph.now pairs never.now atom_never.now output.old work.old output.new work.new result }
+{
+    branched_code(branch::branch(graph, pairs, never, atom_never, output, work))
 }

@@ -1,11 +1,11 @@
 // The static library that C and Rust link: each export is the call of crate abi that has its name, under the same clauses. A slice crosses as a pointer and a length.
-// The ten exported names stand here again since a crate is a library or a static library, not both.
+// The exported names stand here again since a crate is a library or a static library, not both.
 #![tactic(auto)]
 
 ghost use Rattle.std.specs.Prelude.{◌≡◌};
 ghost use Rattle.theory.specs.Accepted.{edition1, edition2};
 ghost use Rattle.refusals.specs.Refusals.{graph_answer};
-ghost use Rattle.abi.specs.Codes.{Tells, Needed, PreparedAs, CompletedAs, CompletedWithinAs, UnfoundedAs, work_words, ComparisonTells, UndecidedAs};
+ghost use Rattle.abi.specs.Codes.{Tells, Needed, PreparedAs, CompletedAs, CompletedWithinAs, UnfoundedAs, work_words, ComparisonTells, UndecidedAs, BranchedAs};
 ghost use Rattle.compare.specs.Comparison.{comparison};
 
 // Graphs of edition 1: the graph check.
@@ -100,6 +100,21 @@ pub extern "C" fn founded_undecided(
     abi::founded_undecided(
         graph, never, atom_never, open_nodes, open_atoms, always, sometimes, work,
     )
+}
+
+// A search branch: so many pairs of masks on one graph, and the missing list of each.
+#[unsafe(no_mangle)]
+pub extern "C" fn founded_branch(
+    graph: &[u16],
+    pairs: usize,
+    never: &[u64],
+    atom_never: &[u64],
+    output: &mut [u64],
+    work: &mut [u16],
+) -> u32
+    ensures { BranchedAs 65536 graph.now pairs never.now atom_never.now output.old work.old output.new work.new result }
+{
+    abi::founded_branch(graph, pairs, never, atom_never, output, work)
 }
 
 // Graphs of edition 2: the graph check.
