@@ -12,7 +12,7 @@ within_code-requires c =
     let n : get_or c.args.graph.now 2 0 < 65536 = omega (arith, c.shared_slice_known-1.given 2) in
     let p : get_or c.args.graph.now 3 0 < 65536 = omega (arith, c.shared_slice_known-1.given 3) in
     let k : get_or c.args.graph.now 4 0 < 65536 = omega (arith, c.shared_slice_known-1.given 4) in
-    rw c.complete.ensures.answer (within_place (omega arith) edition1 c.args.graph.now _ _ _ _ _ _ (completed_place (omega arith) edition1 c.args.graph.now n p k (length c.args.never.now) (length c.args.atom_never.now) (length c.args.output.now) (length c.args.work.now)))
+    rw c.complete-answered.ensures.answer (within_place (omega arith) edition1 c.args.graph.now _ _ _ _ _ _ (completed_place (omega arith) edition1 c.args.graph.now n p k (length c.args.never.now) (length c.args.atom_never.now) (length c.args.output.now) (length c.args.work.now)))
 
 pub returns : goal.returns
-returns c = within_told 65536 edition1 c.complete.ensures c.within_code.ensures
+returns c = within_told 65536 edition1 c.complete-answered.ensures c.within_code.ensures
