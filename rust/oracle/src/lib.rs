@@ -14,4 +14,4 @@ mod theory;
 mod words;
 
 pub(crate) use algebra::{Failure, Meter, Quota, Stop};
-pub use regions::{Ended, Lists, Oracle, Rows};
+pub use regions::{Branch, Ended, Lists, Oracle, Projected, Role, Rows};

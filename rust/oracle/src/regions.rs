@@ -200,6 +200,31 @@ pub struct Rows {
     pub by_body: Vec<Vec<usize>>,
 }
 
+/// A table's rows.
+fn all_rows(table: &Adjacency) -> Vec<Vec<usize>> {
+    table.iter().map(<[usize]>::to_vec).collect()
+}
+
+/// A `Projection`: its two tables, each row in order and with its repeats, and
+/// the nodes selected with their roles, from `seed_start` on the seeds.
+#[derive(Clone, Debug, PartialEq, Eq)]
+pub struct Projected {
+    pub parents: Vec<Vec<usize>>,
+    pub heads: Vec<Vec<usize>>,
+    pub body_nodes: Vec<usize>,
+    pub initial: Vec<Role>,
+    pub seed_start: usize,
+}
+
+/// An `Initial`.
+#[derive(Clone, Copy, Debug, PartialEq, Eq)]
+pub enum Role {
+    Inactive,
+    Awaiting(usize),
+    True,
+    Boundary(usize),
+}
+
 /// A decoded graph: the theory and the list of its producers, no rows yet.
 #[derive(Clone)]
 pub struct Lists {
@@ -273,12 +298,11 @@ impl Oracle {
     }
 
     pub fn rows(&self) -> Rows {
-        let all = |table: &Adjacency| table.iter().map(<[usize]>::to_vec).collect();
         Rows {
-            atom_nodes: all(&self.index.atom_nodes),
-            parents: all(&self.index.parents),
-            by_head: all(&self.producers.by_head),
-            by_body: all(&self.producers.by_body),
+            atom_nodes: all_rows(&self.index.atom_nodes),
+            parents: all_rows(&self.index.parents),
+            by_head: all_rows(&self.producers.by_head),
+            by_body: all_rows(&self.producers.by_body),
         }
     }
 
@@ -314,17 +338,64 @@ impl Oracle {
     /// # Errors
     /// As the original ends.
     pub fn missing(&self, never: &[u64], atom_never: &[u64]) -> Result<Vec<u64>, Ended> {
-        let mut scratch = founded::Scratch::default();
-        scratch.complete(
-            &self.theory,
-            &self.index,
-            &self.producers,
+        self.branch().missing(never, atom_never)
+    }
+
+    /// A fresh scratch, for one pass after the other.
+    pub fn branch(&self) -> Branch<'_> {
+        Branch {
+            oracle: self,
+            scratch: founded::Scratch::default(),
+        }
+    }
+}
+
+/// The original on one scratch: its first pass goes by the original rows, later
+/// ones by the narrowed rows, which the second makes.
+pub struct Branch<'a> {
+    oracle: &'a Oracle,
+    scratch: founded::Scratch,
+}
+
+impl Branch<'_> {
+    /// `Scratch::complete`, then `missing_in_word` for each word of the output.
+    /// The masks and the output must have their exact lengths.
+    ///
+    /// # Errors
+    /// As the original ends.
+    pub fn missing_in(
+        &mut self,
+        never: &[u64],
+        atom_never: &[u64],
+        output: &mut [u64],
+    ) -> Result<(), Ended> {
+        let oracle = self.oracle;
+        self.scratch.complete(
+            &oracle.theory,
+            &oracle.index,
+            &oracle.producers,
             never,
             atom_never,
             &mut Meter::endless(),
         )?;
-        Ok((0..scratch.publication_words())
-            .map(|word| scratch.missing_in_word(word, atom_never[word]))
-            .collect())
+        for (word, list) in output.iter_mut().enumerate() {
+            *list = self.scratch.missing_in_word(word, atom_never[word]);
+        }
+        Ok(())
+    }
+
+    /// The same, the output's words made anew.
+    ///
+    /// # Errors
+    /// As the original ends.
+    pub fn missing(&mut self, never: &[u64], atom_never: &[u64]) -> Result<Vec<u64>, Ended> {
+        let mut output = vec![0; atom_never.len()];
+        self.missing_in(never, atom_never, &mut output)?;
+        Ok(output)
+    }
+
+    /// What passes from the second on go by; none before that.
+    pub fn projected(&self) -> Option<Projected> {
+        founded::explanations::projected(&self.scratch)
     }
 }

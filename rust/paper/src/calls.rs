@@ -133,3 +133,47 @@ pub fn complete_within<W: Word>(
         },
     }
 }
+
+/// The most pairs of a search branch.
+pub const MOST_PAIRS: usize = 64;
+
+/// The length of a search branch's work area, in 16-bit words.
+pub const BRANCH_WORK_WORDS: usize = 49_152;
+
+/// A search branch (document 02, request 1): a missing list for each pair of
+/// masks. Masks are lent end to end, and so is the output written: 10 asks each
+/// for its length times the number of pairs, 11 for a length of its own. 13, no
+/// pair or more than 64, stands after 9 and before 10.
+///
+/// # Errors
+/// The first row that applies.
+pub fn branch(
+    words: &[u16],
+    pairs: usize,
+    never: &[u64],
+    atom_never: &[u64],
+    output_len: usize,
+    work_len: usize,
+) -> Result<Vec<u64>, Refusal> {
+    let graph = Graph::decode(words)?;
+    if pairs == 0 || pairs > MOST_PAIRS {
+        return Err(Refusal::at(13, 0));
+    }
+    let (nodes, atoms) = (mask_len(graph.nodes.len()), mask_len(graph.atoms));
+    if never.len() != pairs * nodes
+        || atom_never.len() != pairs * atoms
+        || output_len != pairs * atoms
+    {
+        return Err(Refusal::at(10, 0));
+    }
+    if work_len != BRANCH_WORK_WORDS {
+        return Err(Refusal::at(11, 0));
+    }
+    let prepared = graph.prepared()?;
+    let list = |pair: usize| {
+        let never = &never[pair * nodes..][..nodes];
+        let atom_never = &atom_never[pair * atoms..][..atoms];
+        pack(&prepared.missing(never, atom_never))
+    };
+    Ok((0..pairs).flat_map(list).collect())
+}

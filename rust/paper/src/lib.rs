@@ -1,5 +1,6 @@
-//! Document 01, and requests 5, 6, 8, 9, 12, 13 and 14 of document 02, in slow, plain Rust, written
-//! from their text alone.
+//! Document 01, and requests 1, 5, 6, 8, 9, 12, 13 and 14 of document 02, in slow, plain
+//! Rust, written from their text alone; what request 1 takes from the original by
+//! name is in [`narrowed`].
 //!
 //! - [`Edition`], [`Word`]: what an edition has of its own; 16-bit words are of
 //!   edition 1, 32-bit words of edition 2;
@@ -7,11 +8,13 @@
 //! - [`needed`], [`prepare`], [`complete`], [`unfounded`]: the calls, with rows 10
 //!   to 12;
 //! - [`complete_within`]: the pass within a work allowance, with row 15;
+//! - [`branch`]: a search branch, with row 13;
 //! - [`work_words`]: the length that row 11 asks for;
 //! - [`compare`]: one order for graphs, by content;
 //! - [`program`]: standard input's bytes to the program's text;
 //! - [`Graph`], [`Prepared`]: the meaning, from which the calls are made;
 //! - [`large`]: closed chains and support in graphs too large for the slow ways;
+//! - [`narrowed`]: what the later pairs of a branch go by;
 //! - [`groups`]: unearned groups and unfounded sets, by trying every set of atoms;
 //! - [`open`]: undecided bits, by trying every choice.
 
@@ -22,6 +25,7 @@ mod graph;
 pub mod groups;
 pub mod large;
 mod meaning;
+pub mod narrowed;
 pub mod open;
 mod order;
 pub mod program;
@@ -29,7 +33,10 @@ mod table;
 mod truth;
 mod work;
 
-pub use calls::{Within, complete, complete_within, needed, prepare, unfounded, work_words};
+pub use calls::{
+    BRANCH_WORK_WORDS, MOST_PAIRS, Within, branch, complete, complete_within, needed, prepare,
+    unfounded, work_words,
+};
 pub use edition::{EDITION_1, EDITION_2, Edition, WORK_WORDS, Word};
 pub use graph::{Graph, Kind, Node, Rule};
 pub use meaning::{Prepared, Rows, marked_by_components};

@@ -1,7 +1,7 @@
 //! "Preparation", "Loop test", "Pass" and "Rows".
 
 use crate::closure::Reach;
-use crate::graph::{Graph, Kind};
+use crate::graph::{Graph, Kind, Rule};
 use crate::{Refusal, is_cut, large};
 
 /// States and conditions up to which closed chains and support are found in the
@@ -63,8 +63,13 @@ impl Graph {
     /// The bodies of rules with at least one head, and the leaves of every And
     /// and Or reached.
     pub fn first_cone(&self) -> Vec<bool> {
+        self.cone(|rule| !rule.heads.is_empty())
+    }
+
+    /// The bodies of the rules wanted, and the leaves of every And and Or reached.
+    fn cone(&self, wanted: impl Fn(&Rule) -> bool) -> Vec<bool> {
         let mut cone = vec![false; self.nodes.len()];
-        for rule in self.rules.iter().filter(|rule| !rule.heads.is_empty()) {
+        for rule in self.rules.iter().filter(|rule| wanted(rule)) {
             if let Some(body) = rule.body {
                 cone[body] = true;
             }
@@ -162,6 +167,12 @@ pub fn marked_by_components(prepared: &Prepared<'_>) -> Vec<bool> {
 }
 
 impl Prepared<'_> {
+    /// The second cone starts from rules with a marked head.
+    pub fn second_cone(&self) -> Vec<bool> {
+        self.graph
+            .cone(|rule| rule.heads.iter().any(|&head| self.marked[head]))
+    }
+
     /// The least set closed under the two rules, by naive iteration.
     pub fn supported(&self, never: &[u64], atom_never: &[u64]) -> Vec<bool> {
         if self.graph.vertices() > MOST_VERTICES {
