@@ -7,6 +7,12 @@ use crate::{Meter, Refusal, Word, chains, raw};
 /// The length of the work area in edition 1, in 16-bit words. In edition 2 it depends on the graph: [`wide::work_words`].
 pub const WORK_WORDS: usize = 32_768;
 
+/// The length of the work area of [`branch`], in 16-bit words.
+pub const BRANCH_WORK_WORDS: usize = 49_152;
+
+/// The most pairs of masks of one [`branch`].
+pub const MOST_PAIRS: usize = 64;
+
 /// How many 64-bit words a mask over so many numbers has: the node mask over N, the atom mask and the output over A.
 #[must_use]
 pub const fn mask_words(count: usize) -> usize {
@@ -193,6 +199,39 @@ pub fn undecided(
             always.len(),
             sometimes.as_mut_ptr(),
             sometimes.len(),
+            work.as_mut_ptr(),
+            work.len(),
+        )
+    })
+}
+
+/// A search branch, on a graph of edition 1: the output lists the missing atoms for each of 1 to 64 pairs of masks, as [`complete`](narrow::complete) does for one.
+///
+/// Node masks, atom masks and the lists of the output are laid end to end, each at its full length: for P pairs they have exactly P·⌈N/64⌉, P·⌈A/64⌉ and P·⌈A/64⌉ words, or it is
+/// refused with 10. The work area has exactly [`BRANCH_WORK_WORDS`], or 11. Success and 12 leave it all zero; every other refusal leaves it, and every refusal leaves the output, as it was.
+///
+/// # Errors
+/// The first of 1 to 14 that applies: 14 stands between 6 and 7, and 13, no pair or more than 64, between 9 and 10.
+pub fn branch(
+    graph: &[u16],
+    pairs: usize,
+    never: &[u64],
+    atom_never: &[u64],
+    output: &mut [u64],
+    work: &mut [u16],
+) -> Result<(), Refusal> {
+    // SAFETY: as in `complete`.
+    answer(graph, unsafe {
+        raw::founded_branch(
+            graph.as_ptr(),
+            graph.len(),
+            pairs,
+            never.as_ptr(),
+            never.len(),
+            atom_never.as_ptr(),
+            atom_never.len(),
+            output.as_mut_ptr(),
+            output.len(),
             work.as_mut_ptr(),
             work.len(),
         )

@@ -15,6 +15,8 @@ pub enum Error {
     NoAtom(AtomId),
     /// No such node in this theory or graph.
     NoNode(NodeId),
+    /// No such pair in this branch.
+    NoPair(usize),
     /// A leaf is not below the And or Or that lists it: leaves are added first.
     LeafNotBelow {
         leaf: NodeId,
@@ -35,6 +37,7 @@ impl fmt::Display for Error {
             Self::TooMany { what, most } => write!(f, "more than {most} {what}"),
             Self::NoAtom(AtomId(a)) => write!(f, "there is no atom {a}"),
             Self::NoNode(NodeId(n)) => write!(f, "there is no node {n}"),
+            Self::NoPair(pair) => write!(f, "there is no pair {pair}"),
             Self::LeafNotBelow {
                 leaf: NodeId(l),
                 node: NodeId(n),

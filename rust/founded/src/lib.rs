@@ -69,6 +69,42 @@
 //! # Ok::<(), Error>(())
 //! ```
 //!
+//! # A search branch
+//!
+//! A search tries one pair of masks after the other on one graph, and most of a lone pass is check and preparation, the same each time. [`Solver::branch`] takes up to 64 pairs and
+//! prepares once, in edition 1. A [`Branch`] is built once and changed in place; the lists are read where the call leaves them. What would be missing if this or that part broke:
+//!
+//! ```
+//! use founded::{Branch, Node, Solver, Theory};
+//!
+//! // The heater is on while the latch is set, the latch is set while the heater is on, and the sun sets it too.
+//! let mut theory = Theory::new();
+//! let [heater, latch, sun] = [theory.add_atom()?, theory.add_atom()?, theory.add_atom()?];
+//! let heater_on = theory.add_node(Node::Atom(heater))?;
+//! let latch_set = theory.add_node(Node::Atom(latch))?;
+//! let sunlit = theory.add_node(Node::Atom(sun))?;
+//! theory.add_producer(latch_set, &[heater])?;
+//! theory.add_producer(heater_on, &[latch])?;
+//! theory.add_producer(sunlit, &[latch])?;
+//! let graph = theory.build()?;
+//!
+//! let mut branch = Branch::new(&graph, 3)?;
+//! branch.cut(1, sun)?;
+//! branch.cut(2, latch_set)?;
+//! let mut solver = Solver::new();
+//! let lists = solver.branch(&graph, &branch)?;
+//! let missing = |pair: usize| lists.get(pair).into_iter().flat_map(|list| list.iter());
+//! assert_eq!(missing(0).count(), 0);
+//! assert!(missing(1).eq([heater, latch]));
+//! assert!(missing(2).eq([heater]));
+//!
+//! // The search goes on: the sun is back, and the heater is cut.
+//! branch.uncut(1, sun)?;
+//! branch.cut(1, heater)?;
+//! assert!(solver.branch(&graph, &branch)?.iter().map(|list| list.len()).eq([0, 0, 1]));
+//! # Ok::<(), founded::Error>(())
+//! ```
+//!
 //! # Filed by content
 //!
 //! Graphs of edition 1 are ordered by content, as [`compare`] says: two graphs that say the same are equal, however their links are numbered. So a sorted map files them.
@@ -154,8 +190,9 @@
 //! # What there is
 //!
 //! - [`Theory`] builds a graph, [`Graph`] or [`WideGraph`] holds the words of one that the proved check has accepted. [`GraphOf::from_words`] takes words from outside. [`Graph::widen`] goes from edition 1 to edition 2.
-//! - [`Solver`] owns the work area and the output and runs the loop test, the preparation and the pass, and on a [`Graph`] the pass with every atom marked ([`Solver::unfounded`]).
-//! - [`check`], [`needed`], [`prepare`] and [`complete`], here and in [`wide`], are calls over plain slices, for callers that keep their own memory; so is [`unfounded`], here alone.
+//! - [`Solver`] owns the work area and the output and runs the loop test, the preparation and the pass, and on a [`Graph`] the pass with every atom marked ([`Solver::unfounded`]) and the
+//!   search branch ([`Solver::branch`]).
+//! - [`check`], [`needed`], [`prepare`] and [`complete`], here and in [`wide`], are calls over plain slices, for callers that keep their own memory; so are [`unfounded`] and [`branch`], here alone.
 //! - [`compare`] is one order for graphs of edition 1, by content, whatever the links' numbering. [`Graph`] is `Ord` by it.
 //! - [`complete_within`] is the pass within an allowance, with a [`Meter`].
 //! - [`raw`] has all calls as the archive does.
@@ -164,6 +201,7 @@
 //! - A [`Theory`] is had from a graph, and a graph from a theory, by `From` and `TryFrom`; a graph's bytes by [`GraphOf::to_bytes`] and [`GraphOf::from_bytes`].
 //! - [`rules`] reads rule files, [`explain`] tells why their states are missing, in circles, and which states nothing produces; the program `founded` prints that.
 
+mod branch;
 mod bytes;
 mod calls;
 mod chains;
@@ -184,8 +222,11 @@ mod solver;
 mod theory;
 mod word;
 
+pub use branch::{Branch, Lists};
 pub use calls::narrow::{check, compare, complete, needed, prepare, unfounded};
-pub use calls::{WORK_WORDS, complete_within, mask_words, undecided, wide};
+pub use calls::{
+    BRANCH_WORK_WORDS, MOST_PAIRS, WORK_WORDS, branch, complete_within, mask_words, undecided, wide,
+};
 pub use error::Error;
 pub use graph::{Graph, GraphOf, WideGraph};
 pub use list::{AtomList, AtomsIter};

@@ -9,14 +9,17 @@ pub trait Cut: Copy + sealed::Numbered {}
 impl Cut for NodeId {}
 impl Cut for AtomId {}
 
-mod sealed {
-    use crate::{AtomId, Error, GraphOf, NodeId, Word};
+pub(crate) mod sealed {
+    use crate::branch::EndToEnd;
+    use crate::{AtomId, Branch, Error, GraphOf, NodeId, Word};
 
     pub trait Numbered {
         fn count<W: Word>(graph: &GraphOf<W>) -> usize;
         fn number(self) -> u32;
         fn numbered(number: u32) -> Self;
         fn unknown(self) -> Error;
+        fn masks(branch: &Branch) -> &EndToEnd;
+        fn masks_mut(branch: &mut Branch) -> &mut EndToEnd;
     }
 
     impl Numbered for NodeId {
@@ -34,6 +37,14 @@ mod sealed {
 
         fn unknown(self) -> Error {
             Error::NoNode(self)
+        }
+
+        fn masks(branch: &Branch) -> &EndToEnd {
+            &branch.never
+        }
+
+        fn masks_mut(branch: &mut Branch) -> &mut EndToEnd {
+            &mut branch.never
         }
     }
 
@@ -53,10 +64,18 @@ mod sealed {
         fn unknown(self) -> Error {
             Error::NoAtom(self)
         }
+
+        fn masks(branch: &Branch) -> &EndToEnd {
+            &branch.atom_never
+        }
+
+        fn masks_mut(branch: &mut Branch) -> &mut EndToEnd {
+            &mut branch.atom_never
+        }
     }
 }
 
-fn bit(words: &[u64], number: u32) -> bool {
+pub(crate) fn bit(words: &[u64], number: u32) -> bool {
     words
         .get(number as usize / 64)
         .is_some_and(|word| word >> (number % 64) & 1 == 1)

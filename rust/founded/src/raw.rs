@@ -87,6 +87,20 @@ unsafe extern "C" {
         allowance: *mut u64,
     ) -> u32;
 
+    pub fn founded_branch(
+        graph: *const u16,
+        graph_len: usize,
+        pairs: usize,
+        never: *const u64,
+        never_len: usize,
+        atom_never: *const u64,
+        atom_never_len: usize,
+        output: *mut u64,
+        output_len: usize,
+        work: *mut u16,
+        work_len: usize,
+    ) -> u32;
+
     pub fn founded_wide_check(graph: *const u32, graph_len: usize) -> u64;
 
     pub fn founded_wide_work_words(graph: *const u32, graph_len: usize) -> u64;

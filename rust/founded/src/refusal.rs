@@ -4,7 +4,7 @@ use std::fmt;
 use crate::{NodeId, ProducerId};
 
 /// A call turned away: one case for each number of the table "Refusals" in docs/FORMAT.md. Of several that apply a call gives the
-/// first in the table's order, in which 14 stands between 6 and 7, and 21 between 10 and 11. In refusals 1, 2, 9 and 11 each edition has its own numbers.
+/// first in the table's order, in which 14 stands between 6 and 7, 13 between 9 and 10, and 21 between 10 and 11. In refusals 1, 2, 9 and 11 each edition has its own numbers.
 #[derive(Clone, Copy, Debug, PartialEq, Eq, Hash)]
 #[non_exhaustive]
 pub enum Refusal {
@@ -26,12 +26,15 @@ pub enum Refusal {
     Head(ProducerId),
     /// 9: more than 4,096 leaf entries or more than 4,096 head entries; in edition 2 more than 1,048,576.
     Entries,
-    /// 10: a mask is longer than the graph asks for (it may be shorter), or the output has another length.
+    /// 10: a mask is longer than the graph asks for (it may be shorter), or the output has another length. Of a search branch the masks and the output laid end to end have not exactly their full lengths
+    /// times the number of pairs.
     Lengths,
-    /// 11: the work area is not exactly 32,768 words; in edition 2 not exactly [`wide::work_words`](crate::wide::work_words).
+    /// 11: the work area is not exactly 32,768 words; of a search branch not exactly 49,152; in edition 2 not exactly [`wide::work_words`](crate::wide::work_words).
     Work,
     /// 12: the body cone holds an absorbed node. The first such node.
     Absorbed(NodeId),
+    /// 13, of a search branch alone: no pair of masks, or more than 64. It stands after 9 and before 10.
+    Pairs,
     /// 15, of a pass within an allowance alone: its count exceeds the allowance. It stands after 12.
     Allowance,
     /// 14: a chain comes back to one of its own links. The first node whose leaf chain does, or where none does, the first producer whose head chain does. A call's code
@@ -66,6 +69,7 @@ impl Refusal {
             10 => Self::Lengths,
             11 => Self::Work,
             12 => Self::Absorbed(NodeId(place)),
+            13 => Self::Pairs,
             15 => Self::Allowance,
             21 => Self::CutAndOpen,
             _ => return None,
@@ -88,6 +92,7 @@ impl Refusal {
             Self::Lengths => 10,
             Self::Work => 11,
             Self::Absorbed(_) => 12,
+            Self::Pairs => 13,
             Self::Allowance => 15,
             Self::ComesBack(_) => 14,
             Self::CutAndOpen => 21,
@@ -112,6 +117,7 @@ impl Refusal {
             | Self::Entries
             | Self::Lengths
             | Self::Work
+            | Self::Pairs
             | Self::Allowance
             | Self::CutAndOpen => 0,
         }
@@ -136,12 +142,13 @@ impl Refusal {
                 "more than 4,096 leaf entries or more than 4,096 head entries (edition 2: more than 1,048,576)"
             }
             Self::Lengths => {
-                "the node mask has more than ⌈N/64⌉ words, or the atom mask more than ⌈A/64⌉, or the output not ⌈A/64⌉"
+                "the node mask has more than ⌈N/64⌉ words, or the atom mask more than ⌈A/64⌉, or the output not ⌈A/64⌉ (a search branch: each not exactly so many for each pair)"
             }
             Self::Work => {
-                "not exactly 32,768 16-bit words (edition 2: 16·(A + N + P + 1) + 4·(leaf entries + head entries) 32-bit words)"
+                "not exactly 32,768 16-bit words (a search branch: 49,152; edition 2: 16·(A + N + P + 1) + 4·(leaf entries + head entries) 32-bit words)"
             }
             Self::Absorbed(_) => "the body cone holds a node of kind 7",
+            Self::Pairs => "no pair of masks, or more than 64",
             Self::Allowance => "the count exceeds the allowance",
             Self::ComesBack(Chain::Node(_)) => {
                 "the leaf chain of this node comes back to one of its own links"

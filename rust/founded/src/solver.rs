@@ -1,4 +1,6 @@
-use crate::{AtomMask, Atoms, Graph, GraphOf, Meter, NodeMask, Refusal, Word, calls};
+use crate::{
+    AtomMask, Atoms, Branch, Graph, GraphOf, Lists, Meter, NodeMask, Refusal, Word, calls,
+};
 
 /// The work area and the output that the calls are lent, kept from call to call; they grow to what the largest graph so far asks for. Nothing else is kept: each answer
 /// depends on the arguments alone. A solver is for graphs of one edition: `Solver<u16>`, or `Solver<u32>` for wide graphs; after `Solver::new()` the compiler
@@ -185,5 +187,22 @@ impl Solver<u16> {
             always: Atoms::of(always),
             sometimes: Atoms::of(sometimes),
         })
+    }
+
+    /// A search branch: the missing atoms for each pair of masks. The graph is checked and prepared once; each pair after the first takes a small part of a pass of its own. What a
+    /// call pays whatever the pairs are, the next one pays anew.
+    ///
+    /// # Errors
+    /// [`Refusal::Absorbed`], and [`Refusal::Lengths`] if the branch is that of a graph of another count.
+    pub fn branch(&mut self, graph: &Graph, branch: &Branch) -> Result<Lists<'_>, Refusal> {
+        if branch.counts() != (graph.nodes(), graph.atoms()) {
+            return Err(Refusal::Lengths);
+        }
+        let pairs = branch.pairs();
+        let output = lend(&mut self.output, pairs * calls::mask_words(graph.atoms()));
+        let work = lend(&mut self.work, calls::BRANCH_WORK_WORDS);
+        let (never, atom_never) = (branch.never(), branch.atom_never());
+        calls::branch(graph.words(), pairs, never, atom_never, output, work)?;
+        Ok(Lists::of(output, pairs))
     }
 }

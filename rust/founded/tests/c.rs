@@ -69,6 +69,21 @@ fn example() {
 }
 
 #[test]
+fn branch() {
+    let said = "lists 0: 0 2 2
+lists 0: 2 0 0
+no pair: 13 0
+65 pairs: 13 0
+masks of one pair: 10 0
+a lone pass's work area: 11 0
+absorbed: 12 1
+64 pairs of a graph without atoms: 0 0
+65 pairs of it: 13 0
+";
+    assert_eq!(printed("branch"), said);
+}
+
+#[test]
 fn wide() {
     let said = "work area 120 140, refused 0
 check: 0 0

@@ -1,9 +1,11 @@
-//! Any words, any lengths, in both editions: no call panics, and each leaves output and work area as document 01 says, and all memory beside them alone.
+//! Any words, any lengths, in both editions: no call panics, and each leaves output and work area as the documents say, and all memory beside them alone.
 
 mod common;
 
 use common::{Rng, Width, graph, theory, work_words};
-use founded::{Error, GraphOf, Refusal, Theory, WORK_WORDS, mask_words};
+use founded::{
+    BRANCH_WORK_WORDS, Error, GraphOf, MOST_PAIRS, Refusal, Theory, WORK_WORDS, mask_words,
+};
 
 /// How a theory is built in an edition.
 type Build<W> = fn(&Theory) -> Result<GraphOf<W>, Error>;
@@ -104,6 +106,60 @@ fn has(words: &[u64], atom: usize) -> bool {
         .is_some_and(|word| word >> (atom % 64) & 1 == 1)
 }
 
+/// A search branch on these words, now and then with a wrong number of pairs or a wrong length; every list is that of a pass with its masks. Gives the answer's number;
+/// none in edition 2.
+fn searched<W: Width>(rng: &mut Rng, graph: &[W]) -> Option<u16> {
+    let branch = W::branch()?;
+    let count = |at: usize| graph.get(at).map_or(0, |&word| word.into() as usize);
+    let [nodes, atoms] = [2, 1].map(|at| mask_words(count(at)).min(16));
+    let mut pairs = [1, 2, 5, MOST_PAIRS - 1, MOST_PAIRS][rng.below(5)];
+    let [mut never, mut atom_never] = [nodes, atoms].map(|words| {
+        (0..pairs * words)
+            .map(|_| rng.next() & rng.next())
+            .collect::<Vec<u64>>()
+    });
+    let mut lengths = Lengths {
+        output: pairs * atoms,
+        work: BRANCH_WORK_WORDS,
+    };
+    let wrong = rng.below(16);
+    match wrong {
+        0 => never.push(0),
+        1 => atom_never.push(0),
+        2 => lengths.output += 1,
+        3 | 4 => lengths.work = [0, WORK_WORDS, BRANCH_WORK_WORDS - 1][rng.below(3)],
+        5 | 6 => pairs = [0, MOST_PAIRS + 1, usize::MAX][rng.below(3)],
+        _ => {}
+    }
+    let refused = match wrong {
+        0..=2 => Some(Refusal::Lengths),
+        3 | 4 => Some(Refusal::Work),
+        5 | 6 => Some(Refusal::Pairs),
+        _ => None,
+    };
+    let lists = left(&lengths, |output, work| {
+        branch(graph, pairs, &never, &atom_never, output, work)
+    });
+    if let Some(refusal) = W::check(graph).err().or(refused) {
+        assert_eq!(lists, Err(refusal));
+        return Some(refusal.number());
+    }
+    let mut work = vec![W::low(0); WORK_WORDS];
+    for pair in 0..pairs {
+        let never = &never[pair * nodes..][..nodes];
+        let atom_never = &atom_never[pair * atoms..][..atoms];
+        let mut output = vec![0; atoms];
+        match W::complete(graph, never, atom_never, &mut output, &mut work) {
+            Ok(()) => {
+                let list = lists.as_ref().map(|lists| &lists[pair * atoms..][..atoms]);
+                assert_eq!(list, Ok(&output[..]));
+            }
+            Err(refusal) => assert_eq!(lists, Err(refusal)),
+        }
+    }
+    Some(lists.map_or_else(|refusal| refusal.number(), |_| 0))
+}
+
 /// All four calls on these words. Gives the number of the pass's answer.
 fn run<W: Width>(rng: &mut Rng, graph: &[W]) -> u16 {
     let checked = W::check(graph);
@@ -173,7 +229,7 @@ fn run<W: Width>(rng: &mut Rng, graph: &[W]) -> u16 {
 
 /// Random words. One in `rare` is crowded, which takes its time where a graph may have many entries.
 fn nothing_panics<W: Width>(build: Build<W>, rare: u64) {
-    let mut numbers = [0; 15];
+    let (mut numbers, mut branches) = ([0; 15], [0; 15]);
     for seed in 0..8_000 {
         let mut rng = Rng::new(seed);
         let words = match seed % 16 {
@@ -182,9 +238,14 @@ fn nothing_panics<W: Width>(build: Build<W>, rare: u64) {
             _ => damaged(&mut rng, build),
         };
         numbers[usize::from(run(&mut rng, &words))] += 1;
+        match searched(&mut rng, &words) {
+            Some(number) => branches[usize::from(number)] += 1,
+            None => branches = [11; 15],
+        }
     }
     let given = |number: usize| number == 13 || numbers[number] > 10;
     assert!((0..15).all(given), "{numbers:?}");
+    assert!(branches.iter().all(|&count| count > 10), "{branches:?}");
 }
 
 #[test]

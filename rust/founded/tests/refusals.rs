@@ -340,7 +340,7 @@ fn masks_of_another_graph() {
 
 #[test]
 fn every_number_is_a_case() {
-    for number in (1..=12).chain([15]) {
+    for number in (1..=13).chain([15]) {
         let refusal = Refusal::of(number, 0).unwrap();
         assert_eq!((refusal.number(), refusal.place()), (number, 0));
         let said = refusal.to_string();
@@ -352,7 +352,7 @@ fn every_number_is_a_case() {
     for number in [4, 5, 6, 7, 8, 12] {
         assert_eq!(Refusal::of(number, 70_000).unwrap().place(), 70_000);
     }
-    for number in [0, 13, 14, 16] {
+    for number in [0, 14, 16] {
         assert_eq!(Refusal::of(number, 0), None);
     }
     let chains = [Chain::Node(NodeId(9)), Chain::Producer(ProducerId(9))];
@@ -362,4 +362,11 @@ fn every_number_is_a_case() {
     }
     let said = "refused 12 1: the body cone holds a node of kind 7";
     assert_eq!(Refusal::Absorbed(NodeId(1)).to_string(), said);
+    let said = "refused 13 0: no pair of masks, or more than 64";
+    assert_eq!(Refusal::Pairs.to_string(), said);
+    // what a search branch has of its own
+    for number in [10, 11] {
+        let said = Refusal::of(number, 0).unwrap().to_string();
+        assert!(said.contains("search branch"), "{said}");
+    }
 }

@@ -33,10 +33,15 @@ pub trait Width: Word {
         output: &mut [u64],
         work: &mut [Self],
     ) -> Result<(), Refusal>;
+    /// None in edition 2.
+    fn branch() -> Option<Branch<Self>>;
 }
 
+/// A search branch over plain slices.
+pub type Branch<W> = fn(&[W], usize, &[u64], &[u64], &mut [u64], &mut [W]) -> Result<(), Refusal>;
+
 macro_rules! width {
-    ($word:ty, $($calls:ident)::+, $number:literal, $limit:literal, $entries:literal, $area:expr, $work_words:expr) => {
+    ($word:ty, $($calls:ident)::+, $number:literal, $limit:literal, $entries:literal, $area:expr, $work_words:expr, $branch:expr) => {
         impl Width for $word {
             const NUMBER: u32 = $number;
             const LIMIT: usize = $limit;
@@ -79,13 +84,24 @@ macro_rules! width {
             ) -> Result<(), Refusal> {
                 $($calls)::+::complete(graph, never, atom_never, output, work)
             }
+
+            fn branch() -> Option<Branch<Self>> {
+                $branch
+            }
         }
     };
 }
 
-width!(u16, founded, 1, 1_024, 4_096, |_, _| 32_768, |graph| {
-    founded::check(graph).ok().map(|()| founded::WORK_WORDS)
-});
+width!(
+    u16,
+    founded,
+    1,
+    1_024,
+    4_096,
+    |_, _| 32_768,
+    |graph| founded::check(graph).ok().map(|()| founded::WORK_WORDS),
+    Some(founded::branch)
+);
 width!(
     u32,
     founded::wide,
@@ -93,7 +109,8 @@ width!(
     262_144,
     1_048_576,
     |size, entries| 16 * (size + 1) + 4 * entries,
-    founded::wide::work_words
+    founded::wide::work_words,
+    None
 );
 
 /// The words of a graph: the edition, and then these.
