@@ -6,6 +6,7 @@ use std::fmt;
 use oracle::{Ended, Oracle};
 use paper::{Graph, Prepared, Refusal};
 
+use crate::branches;
 use crate::calls::{Calls, Word, widened};
 use crate::content::laid_out;
 use crate::ours::{Lengths, Made, NUMBERS, Ours};
@@ -58,6 +59,12 @@ pub struct Tally {
     /// their bound.
     pub counts: u64,
     pub reached: u64,
+    /// Search branches compared with the original on one scratch, in edition 1
+    /// alone, and their lists of later pairs.
+    pub branches: u64,
+    pub later: u64,
+    /// Accepted graphs whose later pairs go by fewer entries than there are.
+    pub narrowed: u64,
     /// What was asked of the proved calls.
     pub ours: Made,
 }
@@ -77,6 +84,9 @@ impl Tally {
         self.sets += other.sets;
         self.counts += other.counts;
         self.reached += other.reached;
+        self.branches += other.branches;
+        self.later += other.later;
+        self.narrowed += other.narrowed;
         self.ours.add(&other.ours);
     }
 
@@ -163,7 +173,7 @@ pub struct Answers {
     pub(crate) graph: Graph,
     loops: bool,
     /// The cyclic atoms, or 12.
-    marked: Result<Vec<u64>, Refusal>,
+    pub(crate) marked: Result<Vec<u64>, Refusal>,
     /// The missing list for each pair of masks; with 12 there is none.
     pub(crate) missing: Vec<Vec<u64>>,
     /// The same of request 6's list, which the document alone answers, in edition 1.
@@ -198,8 +208,8 @@ pub fn compare<W: Word>(
     Ok(Some(answers))
 }
 
-/// Compare all answers on the words, and on the same words in edition 2; where
-/// tails are shared or links unused, also on words of edition 2 with the same
+/// Compare all answers on the words, search branches too, and on the same words in
+/// edition 2; where tails are shared or links unused, also on words of edition 2 with the same
 /// content and a link for each entry. On equal content the answers must be equal.
 ///
 /// # Errors
@@ -217,6 +227,8 @@ pub fn compare_both(
         return compare(&same, &clear_masks(&same), wide).map(|_| ());
     };
     within::compare(words, masks, &answers, narrow)?;
+    let orders = branches::orders(words, masks.len());
+    branches::compare(words, masks, &orders, &answers, narrow)?;
     let graph = &answers.graph;
     equal_content(&same, masks, &answers, wide)?;
     if usize::from(words[4]) != graph.leaf_entries() + graph.head_entries() {
@@ -242,9 +254,12 @@ pub fn compare_renumbered(
             "a graph to be renumbered is refused".into(),
         ));
     };
+    let orders = branches::orders(words, masks.len());
+    branches::compare(words, masks, &orders, &answers, narrow)?;
     for words in numberings {
         equal_content(words, masks, &answers, narrow)?;
         within::compare(words, masks, &answers, narrow)?;
+        branches::ours(words, masks, &orders, &answers, narrow)?;
         equal_content(&widened(words), masks, &answers, wide)?;
     }
     Ok(())
@@ -275,7 +290,11 @@ fn clear_masks<W: Word>(words: &[W]) -> Vec<Masks> {
 }
 
 /// Report a difference unless both sides are equal.
-fn equal<T: PartialEq + std::fmt::Debug>(what: &str, original: T, paper: T) -> Result<(), String> {
+pub(crate) fn equal<T: PartialEq + fmt::Debug>(
+    what: &str,
+    original: T,
+    paper: T,
+) -> Result<(), String> {
     if original == paper {
         return Ok(());
     }
@@ -461,6 +480,11 @@ fn refused<W: Word>(refusal: &Refusal, ours: &mut Ours<W>) -> Result<(), String>
             (allowance, allowance),
             Err(refusal),
         )?;
+    }
+    let work = paper::BRANCH_WORK_WORDS;
+    for pairs in [1, paper::MOST_PAIRS + 1] {
+        let lengths = Lengths { output: 1, work };
+        ours.branch(pairs, (&[!0], &[1, 0]), lengths, Err(refusal))?;
     }
     ours.unchanged()
 }

@@ -46,6 +46,22 @@ pub type Within<W> = unsafe extern "C" fn(
     *mut u64,
 ) -> <W as Word>::Code;
 
+/// A search branch: after the graph the number of pairs, then node masks, atom
+/// masks, output and work area.
+pub type Branch<W> = unsafe extern "C" fn(
+    *const W,
+    usize,
+    usize,
+    *const u64,
+    usize,
+    *const u64,
+    usize,
+    *mut u64,
+    usize,
+    *mut W,
+    usize,
+) -> <W as Word>::Code;
+
 /// The calls on words of one width.
 #[derive(Clone, Copy)]
 pub struct Calls<W: Word> {
@@ -59,6 +75,8 @@ pub struct Calls<W: Word> {
     pub unfounded: Option<Pass<W>>,
     /// Request 8's call, in edition 1 alone.
     pub within: Option<Within<W>>,
+    /// Edition 2 has none.
+    pub branch: Option<Branch<W>>,
 }
 
 /// Graph, node mask, atom mask, output, work area.
@@ -88,6 +106,7 @@ impl Word for u16 {
         complete: raw::founded_complete,
         unfounded: Some(raw::founded_unfounded),
         within: Some(raw::founded_complete_within),
+        branch: Some(raw::founded_branch),
     };
 
     fn cut(bits: u64) -> Self {
@@ -120,6 +139,7 @@ impl Word for u32 {
         complete: raw::founded_wide_complete,
         unfounded: None,
         within: None,
+        branch: None,
     };
 
     fn cut(bits: u64) -> Self {

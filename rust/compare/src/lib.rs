@@ -4,6 +4,7 @@
 //! - [`content`], [`tiny`], [`random`], [`damage`], [`edges`], [`cases`]: inputs;
 //! - [`calls`]: the words of either width, and the calls on them;
 //! - [`agree`]: one graph compared, with its masks;
+//! - [`branches`]: search branches of several pairs of masks;
 //! - [`ours`]: the proved calls, with the memory lent to them watched;
 //! - [`within`]: one graph's passes within an allowance;
 //! - [`open`]: the calls on undecided bits, held to every choice;
@@ -14,6 +15,7 @@
 //! - [`record`]: the recorded list.
 
 pub mod agree;
+pub mod branches;
 pub mod calls;
 pub mod cases;
 pub mod content;

@@ -26,6 +26,8 @@ pub struct Made {
     /// Not in edition 2.
     pub unfounded: u64,
     pub within: u64,
+    /// In edition 1 alone.
+    pub branch: u64,
     pub refused: [u64; NUMBERS],
 }
 
@@ -38,13 +40,14 @@ impl Made {
         self.complete += other.complete;
         self.unfounded += other.unfounded;
         self.within += other.within;
+        self.branch += other.branch;
         for (number, count) in other.refused.iter().enumerate() {
             self.refused[number] += count;
         }
     }
 
     pub fn all(&self) -> u64 {
-        let passes = self.complete + self.unfounded + self.within;
+        let passes = self.complete + self.unfounded + self.within + self.branch;
         self.check + self.work_words + self.needed + self.prepare + passes
     }
 }
@@ -180,6 +183,22 @@ impl<W: Word> Work<W> {
         self.fill();
         held
     }
+
+    /// What a call must leave of it.
+    fn left(&mut self, call: &str, refused: Option<&Refusal>) -> Result<(), String> {
+        let (due, held) = match refused.map_or(0, |refusal| refusal.number) {
+            0 | 12 | 15 => ("all zero", self.was_cleared()),
+            // Left to `Ours::unchanged`.
+            1..=9 | 14 => return Ok(()),
+            _ => ("unchanged", self.unchanged()),
+        };
+        if held {
+            return Ok(());
+        }
+        Err(format!(
+            "our {call}'s work area is not {due}, or what is beside it"
+        ))
+    }
 }
 
 /// The memory lent to the calls, and one graph in it at a time.
@@ -191,6 +210,8 @@ pub struct Ours<W: Word> {
     output: Lent<u64>,
     allowance: Lent<u64>,
     work: Work<W>,
+    /// Of a search branch, whose work area has a length of its own.
+    branch_work: Work<W>,
     pub made: Made,
 }
 
@@ -223,6 +244,7 @@ impl<W: Word> Ours<W> {
             atom_never: Lent::new(masks),
             output: Lent::new(masks),
             allowance: Lent::new(masks),
+            branch_work: Work::new(words, Rng::new(rng.word())),
             work: Work::new(words, rng),
             made: Made::default(),
         }
@@ -272,7 +294,7 @@ impl<W: Word> Ours<W> {
         let found = unsafe { (self.calls.needed)(graph, graph_len, area, work) };
         self.answered("needed", found, expected.map(u32::from))?;
         self.read_only("needed")?;
-        self.work_left("needed", expected.err())
+        self.work.left("needed", expected.err())
     }
 
     /// # Errors
@@ -293,7 +315,7 @@ impl<W: Word> Ours<W> {
         self.answered("prepare", found, expected.map(|_| 0))?;
         self.read_only("prepare")?;
         self.output_left("prepare", expected)?;
-        self.work_left("prepare", expected.err())
+        self.work.left("prepare", expected.err())
     }
 
     /// # Errors
@@ -358,7 +380,50 @@ impl<W: Word> Ours<W> {
         self.answered(name, found, expected.map(|_| 0))?;
         self.read_only(name)?;
         self.output_left(name, expected)?;
-        self.work_left(name, expected.err())
+        self.work.left(name, expected.err())
+    }
+
+    /// Nothing in an edition that has no such call.
+    ///
+    /// # Errors
+    /// As [`Self::check`].
+    pub fn branch(
+        &mut self,
+        pairs: usize,
+        (never, atom_never): (&[u64], &[u64]),
+        lengths: Lengths,
+        expected: Result<&[u64], &Refusal>,
+    ) -> Result<(), String> {
+        let Some(branch) = self.calls.branch else {
+            return Ok(());
+        };
+        self.made.branch += 1;
+        self.never.lend(never.iter().copied());
+        self.atom_never.lend(atom_never.iter().copied());
+        self.lend_output(lengths.output);
+        let (graph, graph_len) = (self.graph.start(), self.graph.len());
+        let output = self.output.start();
+        let area = self.branch_work.lend(lengths.work);
+        // Safety: each slice lies within a buffer of its own.
+        let found = unsafe {
+            branch(
+                graph,
+                graph_len,
+                pairs,
+                self.never.start(),
+                never.len(),
+                self.atom_never.start(),
+                atom_never.len(),
+                output,
+                lengths.output,
+                area,
+                lengths.work,
+            )
+        };
+        self.answered("branch", found, expected.map(|_| 0))?;
+        self.read_only("branch")?;
+        self.output_left("branch", expected)?;
+        self.branch_work.left("branch", expected.err())
     }
 
     /// With an allowance, and what must be left of it. Nothing in an edition that has
@@ -409,7 +474,7 @@ impl<W: Word> Ours<W> {
                 "our complete_within's allowance of {allowance} or what is beside it: {found:?}, document {left}"
             ));
         }
-        self.work_left("complete_within", expected.err())
+        self.work.left("complete_within", expected.err())
     }
 
     /// The output, filled with wild words that differ from call to call.
@@ -468,21 +533,6 @@ impl<W: Word> Ours<W> {
         ))
     }
 
-    fn work_left(&mut self, call: &str, refused: Option<&Refusal>) -> Result<(), String> {
-        let (due, held) = match refused.map_or(0, |refusal| refusal.number) {
-            0 | 12 | 15 => ("all zero", self.work.was_cleared()),
-            // Left to `unchanged`.
-            1..=9 | 14 => return Ok(()),
-            _ => ("unchanged", self.work.unchanged()),
-        };
-        if held {
-            return Ok(());
-        }
-        Err(format!(
-            "our {call}'s work area is not {due}, or what is beside it"
-        ))
-    }
-
     /// The work area after calls on a graph that is refused: looked at once for
     /// all of the same length, since none may write to it and no write can be
     /// undone; those of other lengths were looked at when the length changed.
@@ -490,7 +540,7 @@ impl<W: Word> Ours<W> {
     /// # Errors
     /// If one of them wrote to it.
     pub fn unchanged(&self) -> Result<(), String> {
-        if self.work.unchanged() {
+        if self.work.unchanged() && self.branch_work.unchanged() {
             return Ok(());
         }
         Err("our work area is not unchanged after the graph's refusal, or what is beside it".into())

@@ -297,3 +297,32 @@ pub fn masks<W: Word>(rng: &mut Rng, words: &[W], pairs: usize) -> Vec<Masks> {
         .chain(random.collect::<Vec<_>>())
         .collect()
 }
+
+/// Pairs of masks as a search tries them: mostly the pair before with a cut more or
+/// less, now and then an earlier one or another.
+pub fn search<W: Word>(rng: &mut Rng, words: &[W], pairs: usize) -> Vec<Masks> {
+    let [atoms, nodes] = [1, 2].map(|i| words[i].number());
+    let mut all: Vec<Masks> = vec![];
+    for tried in 0..pairs {
+        let pair = match rng.below(8) {
+            turn if tried == 0 || turn == 0 => (mask(rng, nodes), mask(rng, atoms)),
+            1 => all[rng.below(tried)].clone(),
+            _ => {
+                let (mut never, mut atom_never) = all[tried - 1].clone();
+                turn_a_bit(rng, &mut never, nodes);
+                turn_a_bit(rng, &mut atom_never, atoms);
+                (never, atom_never)
+            }
+        };
+        all.push(pair);
+    }
+    all
+}
+
+/// Half the time, if there is one.
+fn turn_a_bit(rng: &mut Rng, mask: &mut [u64], count: usize) {
+    if count > 0 && rng.chance(1, 2) {
+        let number = rng.below(count);
+        mask[number / 64] ^= 1 << (number % 64);
+    }
+}

@@ -10,7 +10,7 @@ use crate::random::{SCALES, Scale};
 use crate::recut::{Recut, Search};
 use crate::rng::Rng;
 use crate::tiny::Sizes;
-use crate::{damage, edges, random, tiny, within};
+use crate::{branches, damage, edges, random, tiny, within};
 
 /// What was compared, in edition 1 and in edition 2.
 pub type Compared = Result<[Tally; 2], Box<Difference>>;
@@ -47,6 +47,7 @@ fn both(lengths: Lengths, each: impl FnOnce(&mut dyn FnMut(&[u16], &[Masks]))) -
         if lengths == Lengths::WrongToo {
             wrong_lengths(words, &mut narrow.ours)?;
             within::wrong_lengths(words, &mut narrow.ours)?;
+            branches::wrong_lengths(words, &mut narrow.ours)?;
             wrong_lengths(&widened(words), &mut wide.ours)?;
         }
         Ok(())
@@ -155,7 +156,38 @@ pub fn renumbered(seed: u64, from: u64, to: u64) -> Compared {
     Ok([narrow.tally(), wide.tally()])
 }
 
-/// What the generators of these graphs differ in from those of the random ones.
+/// Random graphs `from` up to `to`, each with one search branch of 1, 2, 63, 64 or
+/// another number of pairs.
+pub fn searched(seed: u64, from: u64, to: u64) -> Compared {
+    let mut side = Side::new(u16::ARCHIVE);
+    for i in from..to {
+        let mut rng = numbered(seed ^ SEARCHED, i);
+        let scale = match i {
+            _ if i % 4_000 == 3_999 => 5,
+            _ if i % 1_000 == 999 => 4,
+            _ if i % 50 == 49 => 3,
+            _ => (i % 3) as usize,
+        };
+        let words: Vec<u16> = random::graph(&mut rng, SCALES[scale]);
+        let most = paper::MOST_PAIRS;
+        let pairs = match i % 5 {
+            0 => rng.between(1, 2),
+            1 => most - 1,
+            2 => most,
+            _ => rng.between(3, most),
+        };
+        let masks = random::search(&mut rng, &words, pairs);
+        if let Some(answers) = compare(&words, &masks, &mut side)? {
+            let order = (0..pairs).collect();
+            branches::compare(&words, &masks, &[order], &answers, &mut side)?;
+        }
+    }
+    Ok([side.tally(), Tally::default()])
+}
+
+/// What the generators of these graphs differ in from those of the random ones, and
+/// those of renumbered graphs.
+const SEARCHED: u64 = 0x1111_0000_0000_0000;
 const RENUMBERED: u64 = 0x5555_0000_0000_0000;
 
 /// Damaged copies of small random graphs.

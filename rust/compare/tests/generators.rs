@@ -1,5 +1,6 @@
 //! The random graphs have what their module promises.
 
+use compare::agree::Masks;
 use compare::random::{self, SCALES, WIDE_SCALES};
 use compare::rng::Rng;
 use paper::{Graph, Kind};
@@ -148,4 +149,36 @@ fn ignored_mask_bits_are_wild() {
     let mut rng = Rng::new(5);
     let past = |rng: &mut Rng| random::mask(rng, 3)[0] >> 3;
     assert!((0..100).filter(|_| past(&mut rng) != 0).count() > 90);
+}
+
+/// Of the pairs of a search most are the one before but for a bit in either mask; some
+/// are an earlier one again.
+#[test]
+fn pairs_of_a_search() {
+    let mut rng = Rng::new(10);
+    let (mut near, mut again, mut all) = (0, 0, 0);
+    for i in 0..300 {
+        let words: Vec<u16> = random::graph(&mut rng, SCALES[i % 4]);
+        let graph = Graph::decode(&words).expect("accepted");
+        let pairs = random::search(&mut rng, &words, 64);
+        assert_eq!(pairs.len(), 64);
+        let [nodes, atoms] = [graph.nodes.len(), graph.atoms].map(paper::mask_len);
+        let lengths = |(never, atom_never): &Masks| (never.len(), atom_never.len());
+        assert!(pairs.iter().all(|pair| lengths(pair) == (nodes, atoms)));
+        let turned = |one: &[u64], other: &[u64]| {
+            let words = one.iter().zip(other);
+            words
+                .map(|(one, other)| (one ^ other).count_ones())
+                .sum::<u32>()
+        };
+        for (at, pair) in pairs.iter().enumerate().skip(1) {
+            let before = &pairs[at - 1];
+            let bits = [turned(&pair.0, &before.0), turned(&pair.1, &before.1)];
+            near += usize::from(bits.iter().all(|&bits| bits <= 1));
+            again += usize::from(pairs[..at].contains(pair));
+            all += 1;
+        }
+    }
+    assert!(near > all / 2 && near < all, "{near} of {all}");
+    assert!(again > all / 10 && again < all, "{again} of {all}");
 }

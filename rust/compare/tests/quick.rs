@@ -107,6 +107,15 @@ fn damaged_copies() {
 }
 
 #[test]
+fn search_branches() {
+    let [tally, _] = runs::searched(1, 0, 1_500).expect("no difference");
+    // All kinds of them: 12, something missing, rows that are narrowed.
+    assert!(tally.refused[12] > 20 && tally.later > 40_000, "{tally:?}");
+    assert!(tally.narrowed > 300 && tally.narrowed < 1_400, "{tally:?}");
+    assert!(tally.missing > 5_000, "{tally:?}");
+}
+
+#[test]
 fn limits_of_edition_2() {
     runs::wide_limits(1, 2).expect("no difference");
 }

@@ -26,12 +26,20 @@ struct Lent<W: Word> {
     output: Vec<u64>,
     work: Vec<W>,
     allowance: u64,
+    /// Of a search branch.
+    masks: [Vec<u64>; 2],
+    lists: Vec<u64>,
+    branch_work: Vec<W>,
     made: bool,
 }
 
 /// Check, loop test, preparation, pass; the pass with every atom marked in edition 1,
-/// the length of the work area in edition 2; the pass within an allowance in edition 1.
-const CALLS: usize = 6;
+/// the length of the work area in edition 2; the pass within an allowance and a search
+/// branch in edition 1.
+const CALLS: usize = 7;
+
+/// Pairs of a search branch.
+const PAIRS: usize = 3;
 
 impl<W: Word> Lent<W> {
     fn new(graph: &[W]) -> Self {
@@ -45,6 +53,9 @@ impl<W: Word> Lent<W> {
             output: mask(graph[1]),
             work: vec![word(0); paper::work_words(graph)],
             allowance: 0,
+            masks: [2, 1].map(|at| mask(graph[at]).repeat(PAIRS)),
+            lists: mask(graph[1]).repeat(PAIRS),
+            branch_work: vec![word(0); paper::BRANCH_WORK_WORDS],
             made: false,
         }
     }
@@ -86,7 +97,7 @@ unsafe extern "C" fn make<W: Word>(lent: *mut Lent<W>) {
                 Some(work_words) => _ = work_words(graph, len),
                 None => lent.made = false,
             },
-            _ => match lent.calls.within {
+            5 => match lent.calls.within {
                 Some(within) => {
                     lent.allowance = u64::MAX;
                     _ = within(
@@ -101,6 +112,25 @@ unsafe extern "C" fn make<W: Word>(lent: *mut Lent<W>) {
                         work,
                         work_len,
                         &raw mut lent.allowance,
+                    );
+                }
+                None => lent.made = false,
+            },
+            _ => match lent.calls.branch {
+                Some(branch) => {
+                    let [never, atom_never] = &lent.masks;
+                    _ = branch(
+                        graph,
+                        len,
+                        PAIRS,
+                        never.as_ptr(),
+                        never.len(),
+                        atom_never.as_ptr(),
+                        atom_never.len(),
+                        lent.lists.as_mut_ptr(),
+                        lent.lists.len(),
+                        lent.branch_work.as_mut_ptr(),
+                        lent.branch_work.len(),
                     );
                 }
                 None => lent.made = false,
@@ -197,6 +227,21 @@ mod nothing {
     ) -> W::Code {
         W::code(0, 0)
     }
+    pub unsafe extern "C" fn branch<W: Word>(
+        _: *const W,
+        _: usize,
+        _: usize,
+        _: *const u64,
+        _: usize,
+        _: *const u64,
+        _: usize,
+        _: *mut u64,
+        _: usize,
+        _: *mut W,
+        _: usize,
+    ) -> W::Code {
+        W::code(0, 0)
+    }
 }
 
 fn nothing<W: Word>() -> Calls<W> {
@@ -208,6 +253,7 @@ fn nothing<W: Word>() -> Calls<W> {
         complete: nothing::complete,
         unfounded: W::ARCHIVE.unfounded.map(|_| nothing::complete as _),
         within: W::ARCHIVE.within.map(|_| nothing::within as _),
+        branch: W::ARCHIVE.branch.map(|_| nothing::branch as _),
     }
 }
 
@@ -244,18 +290,17 @@ fn measured<W: Word>(calls: usize) {
         *most = large.max(*most);
     }
     println!(
-        "edition {}, bytes of check, loop test, preparation, pass, unfounded or work_words, within: {all:?}",
+        "edition {}, bytes of check, loop test, preparation, pass, unfounded or work_words, within, branch: {all:?}",
         W::EDITION.number
     );
     assert_eq!(small, large, "the same whatever the size");
-    let all = &all[..calls];
-    assert!(all.iter().all(|&bytes| bytes <= MOST), "{all:?}");
     // Each takes some: the measurement sees it.
-    assert!(all.iter().all(|&bytes| bytes >= 32), "{all:?}");
+    let right = |bytes: &usize| (32..=MOST).contains(bytes);
+    assert!(all[..calls].iter().all(right), "{all:?}");
 }
 
 #[test]
 fn a_call_takes_a_few_hundred_bytes_of_stack() {
-    measured::<u16>(6);
+    measured::<u16>(7);
     measured::<u32>(5);
 }

@@ -2,7 +2,8 @@
 //!
 //! Compares the limits, every tiny content and pattern, COUNT random graphs, a
 //! quarter as many under other numberings of their links, as many with masks of
-//! all lengths and as many damaged copies, in the original, in the papers' reading and through the archive, each
+//! all lengths and as many damaged copies, and search branches of a twentieth, in
+//! the original, in the papers' reading and through the archive, each
 //! in edition 1 and laid out in edition 2;
 //! then the limits of edition 2, as many copies damaged in its own words, and
 //! random graphs above edition 1's limits, one of the largest for each 100,000 of
@@ -107,6 +108,12 @@ fn all(seed: u64, count: u64) -> Result<Families, Box<Difference>> {
         say(
             format!("wide-damaged {from}..{to}"),
             runs::wide_damaged(seed, from, to),
+        )?;
+    }
+    for (from, to) in spans(count / 20) {
+        say(
+            format!("searched {from}..{to}"),
+            runs::searched(seed, from, to),
         )?;
     }
     say("wide-limits widest".into(), runs::widest())?;
