@@ -5,9 +5,11 @@
 //! - [`plain`]: the graph check in plain Rust;
 //! - [`sides`]: one call on each side, with all that it needs;
 //! - [`measure`]: rounds of all sides in turn, and what they say;
+//! - [`branches`]: search branches, by their later pairs;
 //! - [`report`], [`plot`]: tables, bars and the plots;
 //! - [`caches`]: where the machine's caches end.
 
+pub mod branches;
 pub mod caches;
 pub mod inputs;
 pub mod measure;

@@ -1,4 +1,4 @@
-//! `bench [--bars] [--plot FILE] [--plot-wide FILE] [--rounds COUNT] [--graphs COUNT] [--part PART]`:
+//! `bench [--bars] [--plot FILE] [--plot-wide FILE] [--plot-branch FILE] [--rounds COUNT] [--graphs COUNT] [--part PART]`:
 //! times and ratios as tables.
 //!
 //! The parts are `narrow` (edition 1 against the Rust), `editions` (edition 2
@@ -6,26 +6,28 @@
 //! Rust, up to its largest graph), `order` (the check of both editions with
 //! links in any order against plain Rust), `unfounded` (the pass with every atom
 //! marked against the pass), `pairs` (two equal graphs of edition 1 compared,
-//! against one check), `within` (the pass within an allowance against the pass) and
-//! `open` (the call on undecided bits against the lone pass); without `--part` all
-//! are run. With `--bars` it
+//! against one check), `within` (the pass within an allowance against the pass),
+//! `open` (the call on undecided bits against the lone pass) and `branch` (search
+//! branches of 64 pairs of masks against lone calls and the Rust on one scratch);
+//! without `--part` all are run. With `--bars` it
 //! ends with 1 if a bar does not hold; with `--plot` it writes the picture of
-//! `narrow`, with `--plot-wide` that of `scale`; with `--graphs` there are so many
+//! `narrow`, with `--plot-wide` that of `scale`, with `--plot-branch` that of `branch`; with `--graphs` there are so many
 //! graphs of each size of edition 1.
 
 use std::process::ExitCode;
 
 use bench::measure::{EDITION_1, THEORY};
 use bench::report::Bar;
-use bench::{caches, inputs, measure, open, plot, report};
+use bench::{branches, caches, inputs, measure, open, plot, report};
 
-const USAGE: &str = "bench [--bars] [--plot FILE] [--plot-wide FILE] [--rounds COUNT] [--graphs COUNT] \
-                     [--part narrow|editions|scale|order|unfounded|pairs|within|open]";
+const USAGE: &str = "bench [--bars] [--plot FILE] [--plot-wide FILE] [--plot-branch FILE] [--rounds COUNT] [--graphs COUNT] \
+                     [--part narrow|editions|scale|order|unfounded|pairs|within|open|branch]";
 
 struct Asked {
     bars: bool,
     plot: Option<String>,
     plot_wide: Option<String>,
+    plot_branch: Option<String>,
     rounds: usize,
     graphs: Option<usize>,
     part: Option<Part>,
@@ -41,10 +43,11 @@ enum Part {
     Unfounded,
     Pairs,
     Open,
+    Branch,
 }
 
 impl Part {
-    const ALL: [Self; 8] = [
+    const ALL: [Self; 9] = [
         Self::Narrow,
         Self::Editions,
         Self::Scale,
@@ -53,6 +56,7 @@ impl Part {
         Self::Pairs,
         Self::Within,
         Self::Open,
+        Self::Branch,
     ];
 
     fn of(word: &str) -> Option<Self> {
@@ -65,6 +69,7 @@ impl Part {
             "unfounded" => Some(Self::Unfounded),
             "pairs" => Some(Self::Pairs),
             "open" => Some(Self::Open),
+            "branch" => Some(Self::Branch),
             _ => None,
         }
     }
@@ -136,6 +141,15 @@ impl Part {
                 println!("{}", open::table(&rows));
                 Ok(open::bars(&rows))
             }
+            Self::Branch => {
+                let measured = branches::all(asked.graphs, asked.rounds);
+                println!("Search branches of 64 pairs, against lone calls and the Rust\n");
+                println!("{}", report::branches(&measured));
+                draw(&asked.plot_branch, &|| {
+                    plot::branch(&measured, branches::CUTS[1])
+                })?;
+                Ok(report::branch_bars(&measured))
+            }
         }
     }
 }
@@ -149,6 +163,7 @@ fn asked() -> Option<Asked> {
         bars: false,
         plot: None,
         plot_wide: None,
+        plot_branch: None,
         rounds: 1_000,
         graphs: None,
         part: None,
@@ -159,6 +174,7 @@ fn asked() -> Option<Asked> {
             "--bars" => asked.bars = true,
             "--plot" => asked.plot = Some(words.next()?),
             "--plot-wide" => asked.plot_wide = Some(words.next()?),
+            "--plot-branch" => asked.plot_branch = Some(words.next()?),
             "--rounds" => asked.rounds = count(words.next())?,
             "--graphs" => asked.graphs = Some(count(words.next())?),
             "--part" => asked.part = Some(Part::of(&words.next()?)?),

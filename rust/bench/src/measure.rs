@@ -50,13 +50,13 @@ pub const PLAIN: usize = 0;
 const TURN: Duration = Duration::from_micros(400);
 
 /// What reading the clock twice takes at least.
-fn clock() -> Duration {
+pub(crate) fn clock() -> Duration {
     let pairs = (0..100_000).map(|_| Instant::now().elapsed());
     pairs.min().unwrap_or_default()
 }
 
 /// The time of a call on one of the graphs, by its number.
-type Side<'a> = Box<dyn FnMut(usize) -> Duration + 'a>;
+pub(crate) type Side<'a> = Box<dyn FnMut(usize) -> Duration + 'a>;
 
 fn ours<W: Word>(input: &Input<W>, call: Call) -> Side<'_> {
     let mut ours = Ours::new(&input.graphs[0]);
@@ -129,10 +129,8 @@ fn compared<'a>(graphs: &'a Input<u16>, others: &'a Input<u16>) -> Side<'a> {
     })
 }
 
-struct Bench<'a> {
-    /// Without times.
-    measured: Measured,
-    /// Ours first.
+/// Sides that are timed in turn, on the same graphs.
+pub(crate) struct Turns<'a> {
     sides: Vec<Side<'a>>,
     graphs: usize,
     clock: Duration,
@@ -140,6 +138,64 @@ struct Bench<'a> {
     calls: usize,
     /// A time for each side.
     rounds: Vec<Vec<f64>>,
+}
+
+impl<'a> Turns<'a> {
+    /// Over so many graphs; the first side says how many calls a round has.
+    pub(crate) fn new(sides: Vec<Side<'a>>, graphs: usize, clock: Duration) -> Self {
+        let mut turns = Self {
+            sides,
+            graphs,
+            clock,
+            calls: graphs,
+            rounds: vec![],
+        };
+        let once = turns.time(0, 0);
+        turns.calls = (TURN.as_nanos() as f64 / once).ceil().max(1.0) as usize;
+        turns
+    }
+
+    /// Nanoseconds a call of a side in a round: on one graph after the other,
+    /// round after round.
+    fn time(&mut self, side: usize, round: usize) -> f64 {
+        let run = &mut self.sides[side];
+        let calls = round * self.calls..(round + 1) * self.calls;
+        let total: Duration = calls.map(|call| run(call % self.graphs)).sum();
+        let clock = self.clock * self.calls as u32;
+        total.saturating_sub(clock).as_nanos() as f64 / self.calls as f64
+    }
+
+    pub(crate) fn round(&mut self, round: usize) {
+        let sides = self.sides.len();
+        let mut times = vec![0.0; sides];
+        for turn in 0..sides {
+            let side = (round + turn) % sides;
+            // The first time is thrown away: caches and branches settle.
+            self.time(side, round);
+            times[side] = self.time(side, round);
+        }
+        self.rounds.push(times);
+    }
+
+    /// The least over the rounds of what the times of all sides give.
+    pub(crate) fn best(&self, of: impl Fn(&[f64]) -> f64) -> f64 {
+        let times = self.rounds.iter().map(|times| of(times));
+        times.fold(f64::INFINITY, f64::min)
+    }
+
+    /// Lower quartile, median and upper quartile of it.
+    pub(crate) fn quartiles(&self, of: impl Fn(&[f64]) -> f64) -> [f64; 3] {
+        let mut all: Vec<f64> = self.rounds.iter().map(|times| of(times)).collect();
+        all.sort_by(f64::total_cmp);
+        [1, 2, 3].map(|quarter| all[(all.len() - 1) * quarter / 4])
+    }
+}
+
+struct Bench<'a> {
+    /// Without times.
+    measured: Measured,
+    /// Ours first.
+    turns: Turns<'a>,
 }
 
 impl<'a> Bench<'a> {
@@ -162,7 +218,8 @@ impl<'a> Bench<'a> {
         clock: Duration,
     ) -> Self {
         let graphs = input.graphs.len();
-        let mut bench = Self {
+        let sides = std::iter::once(first).chain(others).collect();
+        Self {
             measured: Measured {
                 size: input.size,
                 loops: input.loops,
@@ -171,56 +228,18 @@ impl<'a> Bench<'a> {
                 others: vec![],
                 parts: input.parts as f64 / graphs as f64,
             },
-            sides: std::iter::once(first).chain(others).collect(),
-            graphs,
-            clock,
-            calls: graphs,
-            rounds: vec![],
-        };
-        let once = bench.time(0, 0);
-        bench.calls = (TURN.as_nanos() as f64 / once).ceil().max(1.0) as usize;
-        bench
-    }
-
-    /// Nanoseconds a call of a side in a round: on one graph after the other,
-    /// round after round.
-    fn time(&mut self, side: usize, round: usize) -> f64 {
-        let run = &mut self.sides[side];
-        let calls = round * self.calls..(round + 1) * self.calls;
-        let total: Duration = calls.map(|call| run(call % self.graphs)).sum();
-        let clock = self.clock * self.calls as u32;
-        total.saturating_sub(clock).as_nanos() as f64 / self.calls as f64
-    }
-
-    fn round(&mut self, round: usize) {
-        let sides = self.sides.len();
-        let mut times = vec![0.0; sides];
-        for turn in 0..sides {
-            let side = (round + turn) % sides;
-            // The first time is thrown away: caches and branches settle.
-            self.time(side, round);
-            times[side] = self.time(side, round);
+            turns: Turns::new(sides, graphs, clock),
         }
-        self.rounds.push(times);
     }
 
     fn measured(self) -> Measured {
-        let best = |side: usize| {
-            let times = self.rounds.iter().map(|round| round[side]);
-            times.fold(f64::INFINITY, f64::min)
-        };
-        let quartiles = |side: usize| {
-            let rounds = self.rounds.iter();
-            let mut ratios: Vec<f64> = rounds.map(|times| times[0] / times[side]).collect();
-            ratios.sort_by(f64::total_cmp);
-            [1, 2, 3].map(|quarter| ratios[(ratios.len() - 1) * quarter / 4])
-        };
+        let turns = &self.turns;
         Measured {
-            ours: best(0),
-            others: (1..self.sides.len())
+            ours: turns.best(|times| times[0]),
+            others: (1..turns.sides.len())
                 .map(|side| Other {
-                    best: best(side),
-                    ratios: quartiles(side),
+                    best: turns.best(|times| times[side]),
+                    ratios: turns.quartiles(|times| times[0] / times[side]),
                 })
                 .collect(),
             ..self.measured
@@ -232,7 +251,7 @@ impl<'a> Bench<'a> {
 fn run(mut benches: Vec<Bench>, rounds: usize) -> Vec<Measured> {
     for round in 0..rounds {
         for bench in &mut benches {
-            bench.round(round);
+            bench.turns.round(round);
         }
     }
     benches.into_iter().map(Bench::measured).collect()
@@ -262,9 +281,8 @@ pub fn within(graphs: Option<usize>, rounds: usize) -> Vec<Measured> {
     let inputs = inputs::all::<u16>(graphs);
     let clock = clock();
     let benches = inputs.iter().map(|input| {
-        let mut bench = Bench::new(input, Call::Pass, [ours(input, Call::Pass)], clock);
-        bench.sides[0] = passes_within(input);
-        bench
+        let pass = ours(input, Call::Pass);
+        Bench::of(input, Call::Pass, passes_within(input), [pass], clock)
     });
     run(benches.collect(), rounds)
 }

@@ -2,6 +2,7 @@
 
 use std::fmt::Write as _;
 
+use crate::branches::Searched;
 use crate::caches::Cache;
 use crate::measure::{Measured, THEORY};
 use crate::report::filled;
@@ -20,14 +21,21 @@ struct Picture {
     title: &'static str,
     /// The unit of the times.
     unit: &'static str,
-    /// Our time and the Rust's.
-    times: fn(&Measured) -> [f64; 2],
     /// The ends of the axis of sizes.
     sizes: [f64; 2],
     /// Sizes to be marked, and their names.
     marks: Vec<(f64, String)>,
-    /// Under the picture: what the marks are.
+    /// Under the picture.
     caption: &'static str,
+}
+
+/// A line in each panel, without loops and with.
+struct Line {
+    name: String,
+    colour: &'static str,
+    dashed: bool,
+    /// Sizes and times.
+    points: [Vec<(usize, f64)>; 2],
 }
 
 /// The axes of a panel: sizes in atoms, times in the picture's unit.
@@ -52,9 +60,34 @@ fn share(value: f64, [low, high]: [f64; 2]) -> f64 {
     (value / low).ln() / (high / low).ln()
 }
 
-/// Our time of a call and the Rust's, in nanoseconds.
-fn both(cell: &Measured) -> [f64; 2] {
-    [cell.ours, cell.others[THEORY].best]
+/// A colour for each call, the Rust dashed; `unit` is nanoseconds for the times.
+fn lines(measured: &[Measured], unit: impl Fn(&Measured) -> f64) -> Vec<Line> {
+    let times = [
+        |cell: &Measured| cell.ours,
+        |cell: &Measured| cell.others[THEORY].best,
+    ];
+    let mut lines = Vec::new();
+    for (call, colour) in Call::ALL.into_iter().zip(COLOURS) {
+        for (side, time) in times.into_iter().enumerate() {
+            let sides = match call {
+                Call::Check => ["proved", "plain Rust"],
+                _ => ["proved", "the Rust"],
+            };
+            lines.push(Line {
+                name: format!("{}, {}", call.name(), sides[side]),
+                colour,
+                dashed: side == 1,
+                points: [false, true].map(|loops| {
+                    let of = |cell: &&Measured| (cell.loops, cell.call) == (loops, call);
+                    let cells = measured.iter().filter(of);
+                    cells
+                        .map(|cell| (cell.size, time(cell) / unit(cell)))
+                        .collect()
+                }),
+            });
+        }
+    }
+    lines
 }
 
 /// Edition 1: microseconds a call.
@@ -62,12 +95,11 @@ pub fn svg(measured: &[Measured]) -> String {
     let picture = Picture {
         title: "Time of a call against the size of the graph",
         unit: "microseconds a call",
-        times: |cell| both(cell).map(|nanos| nanos / 1_000.0),
         sizes: [12.0, 1_400.0],
         marks: vec![],
         caption: "",
     };
-    picture.svg(measured)
+    picture.svg(&lines(measured, |_| 1_000.0))
 }
 
 /// Edition 2: nanoseconds a vertex and edge, with the ends of the caches.
@@ -76,21 +108,55 @@ pub fn wide(measured: &[Measured], caches: &[Cache]) -> String {
         let (level, kibi) = (cache.level, cache.bytes / 1_024);
         (filled(cache), format!("L{level}, {kibi} KiB"))
     };
+    let marks: Vec<(f64, String)> = caches.iter().map(mark).collect();
     let picture = Picture {
         title: "Edition 2: time a vertex and edge against the size of the graph",
         unit: "nanoseconds a vertex and edge",
-        times: |cell| both(cell).map(|nanos| nanos / cell.parts),
         sizes: [768.0, 350_000.0],
-        marks: caches.iter().map(mark).collect(),
-        caption: "dotted: where our graph and work area are together as large as a cache of the machine",
+        caption: if marks.is_empty() {
+            ""
+        } else {
+            "dotted: where our graph and work area are together as large as a cache of the machine"
+        },
+        marks,
     };
-    picture.svg(measured)
+    picture.svg(&lines(measured, |cell| cell.parts))
+}
+
+/// Search branches with this share of cuts: microseconds a pair.
+pub fn branch(measured: &[Searched], cuts: usize) -> String {
+    let line = |name: &str, colour: usize, dashed: bool, time: fn(&Searched) -> f64| Line {
+        name: name.into(),
+        colour: COLOURS[colour],
+        dashed,
+        points: [false, true].map(|loops| {
+            let of = |cell: &&Searched| (cell.loops, cell.cuts) == (loops, cuts);
+            let cells = measured.iter().filter(of);
+            cells
+                .map(|cell| (cell.size, time(cell) / 1_000.0))
+                .collect()
+        }),
+    };
+    let picture = Picture {
+        title: "Time of a pair of masks against the size of the graph",
+        unit: "microseconds a pair",
+        sizes: [12.0, 1_400.0],
+        marks: vec![],
+        caption: "64 pairs, 5 of 100 nodes and atoms cut; a later pair is one after the second",
+    };
+    picture.svg(&[
+        line("lone pass", 3, false, |cell| cell.lone),
+        line("one of 64 pairs", 1, false, |cell| cell.pair),
+        line("later pair", 2, false, |cell| cell.later),
+        line("the Rust\u{2019}s later pass", 2, true, |cell| cell.theirs),
+    ])
 }
 
 impl Picture {
-    /// Two panels, without loops and with; a colour for each call, the Rust dashed.
-    fn svg(&self, measured: &[Measured]) -> String {
-        let all = || measured.iter().flat_map(self.times);
+    /// Two panels, without loops and with.
+    fn svg(&self, lines: &[Line]) -> String {
+        let points = |line: &Line| line.points.concat();
+        let all = || lines.iter().flat_map(points).map(|(_, time)| time);
         let low = all().fold(f64::INFINITY, f64::min);
         let high = all().fold(0.0, f64::max);
         let times = [
@@ -111,19 +177,15 @@ impl Picture {
                 sizes: self.sizes,
                 times,
             };
-            let cells: Vec<&Measured> =
-                measured.iter().filter(|cell| cell.loops == loops).collect();
-            self.frame(&mut svg, &axes, &cells, loops);
-            for (call, colour) in Call::ALL.into_iter().zip(COLOURS) {
-                let of: Vec<&Measured> = cells.iter().copied().filter(|c| c.call == call).collect();
-                for (side, dashed) in [(0, false), (1, true)] {
-                    let points = of.iter().map(|c| (c.size, (self.times)(c)[side]));
-                    line(&mut svg, &axes, colour, dashed, points);
-                }
+            let sizes = lines[0].points[panel].iter().map(|&(size, _)| size);
+            self.frame(&mut svg, &axes, sizes, loops);
+            for drawn in lines {
+                let points = drawn.points[panel].iter().copied();
+                line(&mut svg, &axes, drawn.colour, drawn.dashed, points);
             }
         }
-        legend(&mut svg);
-        if !self.marks.is_empty() {
+        legend(&mut svg, lines);
+        if !self.caption.is_empty() {
             let _ = writeln!(
                 svg,
                 "<text x=\"460\" y=\"530\" text-anchor=\"middle\" fill=\"#555555\">{}</text>",
@@ -134,7 +196,13 @@ impl Picture {
     }
 
     /// The frame with its ticks, their lines and names.
-    fn frame(&self, svg: &mut String, axes: &Axes, cells: &[&Measured], loops: bool) {
+    fn frame(
+        &self,
+        svg: &mut String,
+        axes: &Axes,
+        sizes: impl Iterator<Item = usize>,
+        loops: bool,
+    ) {
         let (left, right, bottom) = (axes.left, axes.left + WIDTH, TOP + HEIGHT);
         let mut time = axes.times[0];
         while time <= axes.times[1] * 1.01 {
@@ -148,8 +216,6 @@ impl Picture {
             );
             time *= 10.0;
         }
-        let mut sizes: Vec<usize> = cells.iter().map(|cell| cell.size).collect();
-        sizes.dedup();
         for size in sizes {
             let x = axes.x(size as f64);
             let _ = writeln!(
@@ -228,24 +294,18 @@ fn line(
     }
 }
 
-/// Under the panels: a column for each call, our line above the Rust's.
-fn legend(svg: &mut String) {
-    for (column, (call, colour)) in Call::ALL.into_iter().zip(COLOURS).enumerate() {
-        for (row, side) in ["proved", "the Rust"].into_iter().enumerate() {
-            let (x, y) = (LEFT + 210.0 * column as f64, 474.0 + 26.0 * row as f64);
-            let side = if row == 1 && call == Call::Check {
-                "plain Rust"
-            } else {
-                side
-            };
-            let _ = writeln!(
-                svg,
-                "<path d=\"M{x} {y}h36\" {}/><text x=\"{}\" y=\"{}\">{}, {side}</text>",
-                style(colour, row == 1),
-                x + 44.0,
-                y + 4.0,
-                call.name()
-            );
-        }
+/// Under the panels: two lines a column.
+fn legend(svg: &mut String, lines: &[Line]) {
+    for (number, line) in lines.iter().enumerate() {
+        let (column, row) = (number / 2, number % 2);
+        let (x, y) = (LEFT + 210.0 * column as f64, 474.0 + 26.0 * row as f64);
+        let _ = writeln!(
+            svg,
+            "<path d=\"M{x} {y}h36\" {}/><text x=\"{}\" y=\"{}\">{}</text>",
+            style(line.colour, line.dashed),
+            x + 44.0,
+            y + 4.0,
+            line.name
+        );
     }
 }

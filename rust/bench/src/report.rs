@@ -2,6 +2,7 @@
 
 use std::fmt::Write as _;
 
+use crate::branches::Searched;
 use crate::caches::Cache;
 use crate::inputs::WIDE_WORDS;
 use crate::measure::{CHECK, EDITION_1, Measured, NUMBERINGS, PASS, PLAIN, THEORY};
@@ -292,6 +293,57 @@ pub fn scale_bars(measured: &[Measured]) -> Vec<Bar> {
             figure: high / low,
             most: 4.0,
         });
+    }
+    bars
+}
+
+/// Search branches: a row for each input and share of cuts.
+pub fn branches(measured: &[Searched]) -> String {
+    let mut table = String::from(
+        "| A = N = P | loops | cuts, % | lone pass, µs | 1 pair by it | 2 pairs by it | later pair, µs | by a lone pass \
+         | the Rust's, µs | later pair by it | 64 pairs by 64 lone calls |\n|",
+    );
+    table += &("---|".repeat(11) + "\n");
+    for cell in measured {
+        let (size, loops) = (thousands(cell.size), if cell.loops { "yes" } else { "no" });
+        let [lone, later, theirs] =
+            [cell.lone, cell.later, cell.theirs].map(|nanos| format!("{:.2}", nanos / 1_000.0));
+        let [one, two, all] = [cell.one, cell.two, cell.all].map(spread);
+        let [by_lone, by_theirs] = [cell.by_lone, cell.by_theirs].map(finer);
+        let _ = writeln!(
+            table,
+            "| {size} | {loops} | {} | {lone} | {one} | {two} | {later} | {by_lone} | {theirs} | {by_theirs} | {all} |",
+            cell.cuts
+        );
+    }
+    table
+}
+
+/// As `spread`, with a figure more.
+fn finer([low, middle, high]: [f64; 3]) -> String {
+    format!("{middle:.3} ({low:.3} to {high:.3})")
+}
+
+/// A pair after the second takes at most a fifth of a lone pass, without loops a
+/// twentieth, and with loops at most 0.7 of the original's; 64 pairs take at most a
+/// quarter of 64 lone calls.
+pub fn branch_bars(measured: &[Searched]) -> Vec<Bar> {
+    let mut bars = Vec::new();
+    for cell in measured {
+        let mut bar = |what: &str, [_, figure, _]: [f64; 3], most: f64| {
+            let (size, with) = (thousands(cell.size), with(cell.loops));
+            bars.push(Bar {
+                what: format!("branch at {size} {with} loops, {} % cut: {what}", cell.cuts),
+                figure,
+                most,
+            });
+        };
+        let most = if cell.loops { 0.2 } else { 0.05 };
+        bar("later pair by lone pass", cell.by_lone, most);
+        if cell.loops {
+            bar("later pair by the original's", cell.by_theirs, 0.7);
+        }
+        bar("64 pairs by 64 lone calls", cell.all, 0.25);
     }
     bars
 }

@@ -1,5 +1,6 @@
 //! The inputs are what their module says, and both sides answer alike on them.
 
+use bench::branches;
 use bench::inputs::{self, Input, SIZES, WIDE_SIZES, WIDE_WORDS};
 use bench::plain;
 use bench::sides::{Answer, Before, Call, Ours, Theirs};
@@ -160,5 +161,46 @@ fn the_plain_check_is_the_table() {
         let words = random::graph(&mut rng, random::SCALES[2]);
         same_refusal(&words);
         same_refusal(&damage::copy(&mut rng, &words));
+    }
+}
+
+/// Branches, lone calls and the original on one scratch have the same lists. Of the
+/// cuts there are as many as their share says, and lists differ where there are loops.
+#[test]
+fn branches_are_alike() {
+    for input in inputs::all::<u16>(Some(3)) {
+        for cuts in branches::CUTS {
+            let masks = branches::masks(&input, cuts);
+            let bits = |words: &[u64]| words.iter().map(|word| word.count_ones()).sum::<u32>();
+            let mut cut = 0;
+            let mut differ = false;
+            for (words, masks) in input.graphs.iter().zip(&masks) {
+                cut += bits(&masks.never) + bits(&masks.atom_never);
+                let [mut branch, mut two, mut lone] =
+                    [(); 3].map(|()| branches::Ours::new(input.size));
+                assert_eq!(branch.branch(words, masks, 64), 0);
+                assert_eq!(two.branch(words, masks, 2), 0);
+                assert_eq!(lone.lone(words, masks), 0);
+                assert_eq!(branch.lists, lone.lists);
+                let each = branch.lists.len() / 64;
+                assert_eq!(two.lists[..2 * each], lone.lists[..2 * each]);
+                let oracle = oracle::Oracle::new(words).expect("rows");
+                for before in [0, branches::BEFORE] {
+                    let mut theirs = vec![!0; lone.lists.len()];
+                    branches::theirs(&oracle, masks, &mut theirs, before, |passes| passes());
+                    assert_eq!(theirs, lone.lists);
+                }
+                differ |= lone
+                    .lists
+                    .chunks(each)
+                    .any(|list| list != &lone.lists[..each]);
+            }
+            let all = 3 * 2 * 64 * input.size as u32;
+            let share = f64::from(100 * cut) / f64::from(all);
+            assert!((share - cuts as f64).abs() < 1.0, "{share} for {cuts}");
+            // Small graphs have few cuts.
+            let few = (input.size, cuts) == (16, 5);
+            assert!(differ == (input.loops && cuts > 0) || few);
+        }
     }
 }

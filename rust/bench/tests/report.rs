@@ -1,5 +1,6 @@
 //! Bars, tables and plot from figures set by hand.
 
+use bench::branches::{CUTS, Searched};
 use bench::caches::Cache;
 use bench::inputs::{SIZES, WIDE_SIZES};
 use bench::measure::{CHECK, EDITION_1, Measured, Other, PLAIN, THEORY};
@@ -216,4 +217,77 @@ fn the_ends_of_the_caches_are_marked() {
         "graph and work area are as large as L2 (1,024 KiB) at 2,818 atoms\n\
          graph and work area are as large as L3 (32,768 KiB) at 90,200 atoms\n"
     );
+}
+
+/// A later pair takes 0.04 of a lone pass and 0.6 of the Rust's, 64 pairs 0.2 of 64
+/// lone calls.
+fn branch_figures() -> Vec<Searched> {
+    let around = |ratio: f64| [0.9 * ratio, ratio, 1.1 * ratio];
+    let mut all = Vec::new();
+    for size in SIZES {
+        for (loops, cuts) in [false, true].into_iter().flat_map(|l| CUTS.map(|c| (l, c))) {
+            all.push(Searched {
+                size,
+                loops,
+                cuts,
+                lone: 100.0 * size as f64,
+                pair: 20.0 * size as f64,
+                later: 4.0 * size as f64,
+                theirs: 4.0 * size as f64 / 0.6,
+                one: around(1.1),
+                two: around(1.2),
+                by_lone: around(0.04),
+                by_theirs: around(0.6),
+                all: around(0.2),
+            });
+        }
+    }
+    all
+}
+
+#[test]
+fn branches_are_held_to_lone_passes_and_to_the_rust() {
+    let all = branch_figures();
+    assert_eq!(report::branch_bars(&all).len(), 12 * 2 + 12 * 3);
+    assert_eq!(broken(report::branch_bars(&all)), [""; 0]);
+    let with = |change: fn(&mut Searched), loops: bool| {
+        let mut all = branch_figures();
+        let wanted = |cell: &&mut Searched| (cell.size, cell.loops, cell.cuts) == (64, loops, 5);
+        change(all.iter_mut().find(wanted).expect("measured"));
+        broken(report::branch_bars(&all))
+    };
+    let by_lone = |cell: &mut Searched| cell.by_lone[1] = 0.06;
+    assert_eq!(with(by_lone, true), [""; 0]);
+    assert_eq!(
+        with(by_lone, false),
+        ["branch at 64 without loops, 5 % cut: later pair by lone pass"]
+    );
+    assert_eq!(
+        with(|cell| cell.by_lone[1] = 0.21, true),
+        ["branch at 64 with loops, 5 % cut: later pair by lone pass"]
+    );
+    let by_theirs = |cell: &mut Searched| cell.by_theirs[1] = 0.71;
+    assert_eq!(with(by_theirs, false), [""; 0]);
+    assert_eq!(
+        with(by_theirs, true),
+        ["branch at 64 with loops, 5 % cut: later pair by the original's"]
+    );
+    assert_eq!(
+        with(|cell| cell.all[1] = 0.26, false),
+        ["branch at 64 without loops, 5 % cut: 64 pairs by 64 lone calls"]
+    );
+}
+
+#[test]
+fn branches_in_table_and_plot() {
+    let all = branch_figures();
+    let table = report::branches(&all);
+    let columns = |row: &str| row.matches('|').count();
+    assert_eq!(table.lines().count(), 2 + all.len());
+    assert!(table.lines().all(|row| columns(row) == 12));
+    assert!(table.contains("| 0.040 (0.036 to 0.044) |") && table.contains("| 1,024 | yes | 30 |"));
+    let svg = plot::branch(&all, CUTS[1]);
+    assert_eq!(svg.matches("<polyline").count(), 2 * 4);
+    assert_eq!(svg.matches("<circle").count(), 2 * 4 * SIZES.len());
+    assert!(!svg.contains("NaN") && !svg.contains("inf"));
 }
