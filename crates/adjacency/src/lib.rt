@@ -190,6 +190,7 @@ fn sum<W: Word>(part: &mut [W], rows: usize)
 }
 
 // A table in its part of the work area.
+#[inline(always)]
 pub fn build_in<W: Word>(graph: &[W], work: &mut [W], b: Bases, table: Table)
     requires { Accepted W.edition (W.numbers graph.now) × Based (W.numbers graph.now) (length (W.numbers work.old)) b }
     ensures { Built (theory_of (W.numbers graph.now)) b table (W.numbers work.old) (W.numbers work.new) }

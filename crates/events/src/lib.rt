@@ -72,6 +72,7 @@ impl<W: Word> Rows<W> for Original<'_, W> {
 
     ghost stand = { λ it. GraphRows W.edition (W.numbers it.graph.now) it.bases };
 
+    #[inline(always)]
     fn settle(self, work: &mut [W], v: usize, tail: usize) -> usize {
         let b = self.bases;
         rows::along(self.graph, work, b, Settle { bases: b }, v, tail)
