@@ -9,7 +9,7 @@ use oracle::{Ended, Oracle, Projected, Role};
 use paper::narrowed::{Narrowed, Start};
 use paper::{BRANCH_WORK_WORDS, Graph, MOST_PAIRS, Refusal, WORK_WORDS};
 
-use crate::agree::{Answers, Difference, Masks, Side, equal, on};
+use crate::agree::{Answers, Difference, Masks, Side, equal, filled, on};
 use crate::ours::{Lengths, Ours};
 use crate::rng::Rng;
 
@@ -40,6 +40,15 @@ pub fn orders(words: &[u16], pairs: usize) -> Vec<Order> {
     orders
 }
 
+/// The masks at their full lengths: those that are laid end to end are never short.
+fn full(masks: &[Masks], graph: &Graph) -> Vec<Masks> {
+    let pair = |(never, atom_never): &Masks| {
+        let nodes = filled(never, graph.nodes.len());
+        (nodes, filled(atom_never, graph.atoms))
+    };
+    masks.iter().map(pair).collect()
+}
+
 /// The masks of a branch end to end.
 fn end_to_end(masks: &[Masks], order: &Order) -> Masks {
     let of = |one: fn(&Masks) -> &Vec<u64>| {
@@ -62,6 +71,7 @@ pub fn compare(
 ) -> Result<(), Difference> {
     let rows = |end: Ended| on(words, None)(format!("rows: {end:?}"));
     let original = Oracle::new(words).map_err(rows)?;
+    let masks = &full(masks, &answers.graph);
     if !masks.is_empty() {
         let narrows = narrowed(&original, masks, answers).map_err(on(words, None))?;
         side.tally.narrowed += u64::from(narrows);
@@ -175,6 +185,7 @@ pub fn ours(
     side: &mut Side<u16>,
 ) -> Result<(), Difference> {
     side.ours.graph(words);
+    let masks = &full(masks, &answers.graph);
     for order in orders {
         let lent = end_to_end(masks, order);
         let lists = order.iter().flat_map(|&pair| answers.missing.get(pair));
