@@ -4,6 +4,7 @@
 ghost use Rattle.std.specs.Prelude.{◌≡◌, ℕ, ◌+◌, ◌*◌, ◌/◌, ◌≤◌, ◌++◌, Some, Ok, Err, IfOk, OnOk, length, codes, decimal, ⊤};
 
 use arrayvec::ArrayVec;
+use std::alloc::AllocError;
 use std::error::Error;
 use std::fmt;
 use std::io::Read;
@@ -37,6 +38,19 @@ pub struct Reader<R> {
     pub words: u64,
     pub state: Result<(), Malformed>,
     ghost within: { at + left ≤ 65536 },
+}
+
+// A copy of the reader of a source that is copied, as `&[u8]`.
+impl<R: Copy> Copy for Reader<R> {}
+
+impl<R: Copy> Clone for Reader<R> {
+    ghost is_clone = { λ r s. s ≡ r };
+
+    ghost is_infallible = { λ _. ⊤ };
+
+    fn clone(&self) -> Result<Reader<R>, AllocError> {
+        Ok(*self)
+    }
 }
 
 // Reads until `bytes` is full, the source ends or a read fails, and returns how many bytes it put at the start. (`read_exact` does not say how many. How often
@@ -83,7 +97,8 @@ impl<R: Read> Reader<R> {
     }
 
     fn fail(&mut self, word: u64) -> Malformed
-        ensures { self.new.state ≡ Err result }
+        ensures word { result.word ≡ word }
+        ensures state { self.new.state ≡ Err result }
     {
         let malformed = Malformed { word };
         self.state = Err(malformed);
@@ -220,9 +235,11 @@ impl<R: Read> Reader<R> {
         ensures count { Counts (n * T.words) self.old self.new result }
         ensures len { IfOk result (λ list. array_vec_len list ≡ n) }
     {
-        let mut list = ArrayVec::from_array_in((), [T::default(); MOST]);
-        list.truncate(n);
-        self.fill(list.as_mut_slice())?;
+        self.state?;
+        let mut list = ArrayVec::new();
+        for _ in 0..n {
+            list.push(T::next(self)?);
+        }
         Ok(list)
     }
 
@@ -234,9 +251,17 @@ impl<R: Read> Reader<R> {
         ensures count { Counts ((n + 1) / 2) self.old self.new result }
         ensures len { IfOk result (λ bytes. array_vec_len bytes ≡ n) }
     {
-        let mut bytes = ArrayVec::from_array_in((), [0; MOST]);
-        bytes.truncate(n);
-        self.fill_bytes(bytes.as_mut_slice())?;
+        self.state?;
+        let mut bytes = ArrayVec::new();
+        for _ in 0..n / 2 {
+            let [low, high] = self.next()?.to_le_bytes();
+            bytes.push(low);
+            bytes.push(high);
+        }
+        if n % 2 == 1 {
+            let [low, _beside] = self.next()?.to_le_bytes();
+            bytes.push(low);
+        }
         Ok(bytes)
     }
 }

@@ -3,9 +3,8 @@
 
 ghost use Rattle.std.specs.Prelude.{◌≡◌, IfOk, OnOk, OnErr};
 ghost use Rattle.recording.specs.Reading.{Keeps, Tells};
-ghost use Rattle.replaying.specs.Replays.{Replayed, Calls, GraphReplayed, RecordReplayed};
+ghost use Rattle.replaying.specs.Replays.{Replayed, Calls, GraphReplayed, RunReplayed, RecordReplayed};
 
-use arrayvec::ArrayVec;
 use recording::{Malformed, Reader};
 use records::{Call, Kind};
 use scoring::Scores;
@@ -73,9 +72,23 @@ fn replay_graph<R: Read>(reader: &mut Reader<R>, scores: &mut Scores) -> Result<
     if 13400 < size {
         return Err(reader.wrong());
     }
-    let graph: ArrayVec<u16, 13400> = reader.list(size)?;
+    // (a list of its own would be put together in one place and moved to another, for each record)
+    let mut room = [0u16; 13400];
+    let graph = &mut room[..size];
+    reader.fill(graph)?;
     let calls = reader.next()?;
-    replay_calls(reader, graph.as_slice(), calls, scores)
+    replay_calls(reader, graph, calls, scores)
+}
+
+// A run of the program, with room for the longest input, 70,054 bytes. (A function of its own: one clears its arrays when it begins, and a record of a graph has no use for this one.)
+fn replay_run<R: Read>(reader: &mut Reader<R>, scores: &mut Scores) -> Result<(), Malformed>
+    ensures kept { Keeps reader.old reader.new result }
+    ensures told { Tells reader.new result }
+    ensures replayed { OnOk result (RunReplayed scores.old scores.new) }
+{
+    let mut bytes = [0u8; 72000];
+    scoring::score_run(reader, &mut bytes, scores)?;
+    Ok(())
 }
 
 /// The next record. The answer is its kind.
@@ -92,9 +105,7 @@ pub fn replay_record<R: Read>(
     };
     match kind {
         Kind::Graph => replay_graph(reader, scores)?,
-        Kind::Run => {
-            scoring::score_run(reader, &mut [0; 72000], scores)?;
-        }
+        Kind::Run => replay_run(reader, scores)?,
     }
     Ok(kind)
 }

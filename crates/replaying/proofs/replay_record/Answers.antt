@@ -5,8 +5,7 @@ pub returns-in_ok-replay_graph-in-Graph-clause-replayed :
 returns-in_ok-replay_graph-in-Graph-clause-replayed g c =
     rw c.in-Graph.is c.in_ok-replay_graph-in-Graph.ensures.replayed
 
-pub returns-in_ok-score_run-in-Run-clause-replayed :
-    goal.returns-in_ok-score_run-in-Run-clause-replayed
-returns-in_ok-score_run-in-Run-clause-replayed g c =
-    let it = c.in_ok-score_run-in-Run in
-    rw c.in-Run.is record { bytes = c.score_run.new.room; said = it.field-0; run = it.ensures.scored; others = it.ensures.others }
+pub returns-in_ok-replay_run-in-Run-clause-replayed :
+    goal.returns-in_ok-replay_run-in-Run-clause-replayed
+returns-in_ok-replay_run-in-Run-clause-replayed g c =
+    rw c.in-Run.is c.in_ok-replay_run-in-Run.ensures.replayed
