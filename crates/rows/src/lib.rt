@@ -67,7 +67,8 @@ fn producers<W: Word, S: Step<W>>(
     t
 }
 
-// Every entry of the row of vertex v. No step changes the tables.
+// Every entry of the row of vertex v. No step changes the tables. (Inlined, so that `b` and the bases of a step are not copied for each vertex.)
+#[inline(always)]
 pub fn along<W: Word, S: Step<W>>(
     graph: &[W],
     work: &mut [W],
