@@ -1,7 +1,7 @@
 // The program's lines, put together in a list and written into lent memory.
 #![tactic(auto)]
 
-ghost use Rattle.std.specs.Prelude.{◌≡◌, ◌∷◌, ◌++◌, ◌+◌, ◌<◌, ◌≤◌, length};
+ghost use Rattle.std.specs.Prelude.{◌≡◌, [], ◌∷◌, ◌++◌, ◌+◌, ◌<◌, ◌≤◌, length};
 ghost use Rattle.arrayvec.specs.ArrayVec.{array_vec_len};
 ghost use Rattle.theory.specs.Sets.{members};
 ghost use Rattle.theory.specs.Words.{bit_at};
@@ -9,11 +9,9 @@ ghost use Rattle.text.specs.Text.{decimal, line, refused_line, loops_line, missi
 
 use arrayvec::ArrayVec;
 
-// Room for the longest text: `loops yes`, and `missing` with 1,024 atoms.
-type Text = ArrayVec<u8, 5144>;
-
-fn put(text: &mut Text, bytes: &[u8])
-    requires { array_vec_len text.old + length bytes.now ≤ 5144 }
+// A text has the room of its longest: 20 bytes for a refusal, and 5,144 for `loops yes` and `missing` with 1,024 atoms.
+fn put<const ROOM: usize>(text: &mut ArrayVec<u8, ROOM>, bytes: &[u8])
+    requires { array_vec_len text.old + length bytes.now ≤ ROOM }
     ensures { text.new.items ≡ text.old.items ++ bytes.now }
 {
     text.try_extend_from_slice(bytes).unwrap();
@@ -21,8 +19,8 @@ fn put(text: &mut Text, bytes: &[u8])
 
 // A space, and the number in decimal. Here, in `put_line`, `put_refusal` and `put_lines` the bytes are put one after the other, and no `Display` prints them:
 // the words are fixed byte strings, and `write!(text, " {n}")` doesn't prove, since its contract doesn't say that it succeeds where there is room.
-fn put_number(text: &mut Text, n: usize)
-    requires { array_vec_len text.old + (1 + length (decimal n)) ≤ 5144 }
+fn put_number<const ROOM: usize>(text: &mut ArrayVec<u8, ROOM>, n: usize)
+    requires { array_vec_len text.old + (1 + length (decimal n)) ≤ ROOM }
     ensures { text.new.items ≡ text.old.items ++ 32 ∷ decimal n }
 {
     put(text, b" ");
@@ -31,8 +29,8 @@ fn put_number(text: &mut Text, n: usize)
 
 // A word, the numbers after it, and the line's end.
 #[tactic(auto, unfolding(crate::specs::Text::spaced))]
-fn put_line(text: &mut Text, word: &[u8], numbers: &[usize])
-    requires { array_vec_len text.old + length (line word.now numbers.now) ≤ 5144 }
+fn put_line<const ROOM: usize>(text: &mut ArrayVec<u8, ROOM>, word: &[u8], numbers: &[usize])
+    requires { array_vec_len text.old + length (line word.now numbers.now) ≤ ROOM }
     ensures { text.new.items ≡ text.old.items ++ line word.now numbers.now }
 {
     put(text, word);
@@ -58,25 +56,23 @@ pub fn put_refusal(out: &mut [u8], number: usize, place: usize) -> usize
     requires { (number < 65536) × (place < 65536) × (20 ≤ length out.old) }
     ensures { Appended out.old 0 (refused_line number place) out.new result }
 {
-    let mut text = Text::new();
+    let mut text: ArrayVec<u8, 20> = ArrayVec::new();
     put_line(&mut text, b"refused", &[number, place]);
     write(out, &text)
 }
 
-// The numbers below n whose bits are set, ascending, and before them how many they are.
+// The numbers below n whose bits are set, ascending, and before them how many they are. (The list is lent: one that is answered is moved.)
 #[tactic(auto, using(crate::proofs::TextLaws::members_few, crate::proofs::TextLaws::members_none, crate::proofs::TextLaws::members_with, crate::proofs::TextLaws::members_without))]
-fn counted(mask: &[u64], n: usize) -> ArrayVec<usize, 1025>
-    requires { n ≤ 1024 }
-    ensures { result.items ≡ length (members n (bit_at mask.now)) ∷ members n (bit_at mask.now) }
+fn counted(numbers: &mut ArrayVec<usize, 1025>, mask: &[u64], n: usize)
+    requires { (numbers.old.items ≡ []) × (n ≤ 1024) }
+    ensures { numbers.new.items ≡ length (members n (bit_at mask.now)) ∷ members n (bit_at mask.now) }
 {
-    let mut numbers = ArrayVec::new();
     for i in 0..n {
         if mask::bit(mask, i) {
             numbers.push(i);
         }
     }
     numbers.insert(0, numbers.len());
-    numbers
 }
 
 // Both lines: whether there is a loop, and `missing` with the count and the atoms.
@@ -85,9 +81,11 @@ pub fn put_lines(out: &mut [u8], cycle: bool, mask: &[u64], atoms: usize) -> usi
     requires { (atoms ≤ 1024) × (5144 ≤ length out.old) }
     ensures { Appended out.old 0 (loops_line cycle ++ missing_line (members atoms (bit_at mask.now))) out.new result }
 {
-    let mut text = Text::new();
+    let mut text: ArrayVec<u8, 5144> = ArrayVec::new();
     let answer: &[u8] = if cycle { b"loops yes\n" } else { b"loops no\n" };
     put(&mut text, answer);
-    put_line(&mut text, b"missing", &counted(mask, atoms));
+    let mut numbers = ArrayVec::new();
+    counted(&mut numbers, mask, atoms);
+    put_line(&mut text, b"missing", &numbers);
     write(out, &text)
 }

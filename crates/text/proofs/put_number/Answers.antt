@@ -5,9 +5,9 @@ use Rattle.text.proofs.TextLaws.{append_then, number_text}
 use Rattle.text.proofs.put_number.Goals as goal
 
 pub put-requires-2 : goal.put-requires-2
-put-requires-2 c =
+put-requires-2 g c =
     rw (c.put.ensures, length-append) (omega (arith, c.requires, ap length (number_text c.args.n (omega arith) c.as_bytes.ensures.value c.format.ensures.text)))
 
 pub returns : goal.returns
-returns c =
+returns g c =
     append_then _ _ _ c.put.ensures (rw (number_text c.args.n (omega arith) c.as_bytes.ensures.value c.format.ensures.text) at c.put-2.ensures)
