@@ -24,6 +24,13 @@ use Rattle.adjacency.specs.declared.Table.TheVariants.{AtomNodes, Parents, ByHea
 use Rattle.adjacency.specs.Tables.{rows_of, items_of, keys_of, edges_of, base_of, next_of}
 use Rattle.adjacency.specs.Building.{Keyed, start_of}
 
+-- ---- the row of a body's word
+
+pub body_keys_lem : (k : ℕ) → 0 < k → body_keys k ≡ (k - 1) ∷ []
+unfolding body_keys
+body_keys_lem zero h = elim h [ ]
+body_keys_lem (suc k) h = let e : k ≡ suc k - 1 = omega arith in ap (λ (x : ℕ). x ∷ []) e
+
 -- ---- the edges of item i of table t, by what was read of it: r is whether its kind takes an operand, and x is the row that it names
 
 module _ (ws : List ℕ) {t : Table} (i : ℕ) where
@@ -66,12 +73,7 @@ module _ (ws : List ℕ) {t : Table} (i : ℕ) where
 
   module _ (e : t ≡ ByBody) where
     pub body_edges : {x : ℕ} → (0 < (theory_of ws).body i) × (x ≡ (theory_of ws).body i - 1) → tagged i (keys_of (theory_of ws) t i) ≡ edge x i ∷ []
-    unfolding body_keys
-    body_edges {x} some = rw e (go ((theory_of ws).body i) some.0 some.1)
-      where
-        go : (k : ℕ) → 0 < k → x ≡ k - 1 → tagged i (body_keys k) ≡ edge x i ∷ []
-        go zero h q = elim h [ ]
-        go (suc k) h q = let y : k ≡ x = omega arith in ap (λ (x : ℕ). edge x i ∷ []) y
+    body_edges {x} some = rw (e, some.1) (ap (tagged i) (body_keys_lem ((theory_of ws).body i) some.0))
 
     pub body_no_edges : (0 < (theory_of ws).body i → ⊥) → tagged i (keys_of (theory_of ws) t i) ≡ []
     unfolding body_keys

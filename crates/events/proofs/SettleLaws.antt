@@ -2,12 +2,12 @@
 use mathlib.Core.Path.{◌≡◌, refl, sym, ap, ◌∙◌}
 use mathlib.Core.Logic.{◌≢◌}
 use mathlib.Core.List.{List, [], ◌∷◌, ◌++◌}
-use Prim.Native.Nat.{ℕ, zero, suc, ◌+◌, ◌-◌, ◌<◌}
+use Prim.Native.Nat.{ℕ, zero, suc, ◌+◌, ◌-◌, ◌≤◌, ◌<◌}
 use native.Mathlib.Omega.{arith}
 use mir.Val.{bool_byte}
 use borrow.Author.Tests.{lt-ltb}
 use lib.Dec.{ltb}
-use lib.ListN.{get_or, set, drop, length-set, length-append}
+use lib.ListN.{length, get_or, set, drop, length-set, length-append}
 use lib.Seq.{set-get_or, get_or-set_other, take-set-le}
 use Rattle.theory.proofs.PrefixLaws.{upto_length}
 use Rattle.theory.specs.Worklist.{Worklist}
@@ -129,3 +129,7 @@ module _ {lim : ℕ} {b : Bases} {w : List ℕ} {t v : ℕ} where
             size = length-set (set w (b.dependencies + v) 0) (b.queue + t) v ∙ length-set w (b.dependencies + v) 0;
             keeps = λ c more h. held_found h 0 (sym e) refl;
           }
+
+-- the words are as long as the tables
+pub tables_long : {lim : ℕ} {b : Bases} {w : List ℕ} {t : ℕ} {l : List ℕ} → Follows (Held lim b) w t l → b.states ≤ length w
+tables_long f = let k = f.held.laid in let q = f.held.long in omega arith

@@ -154,6 +154,12 @@ module _ {ws : List ℕ} {b : Bases} {w : List ℕ} (ready : Ready ws b w) (v : 
   pub found_top : get_or (discovered ws b w v n) (b.queue + n) 0 ≡ v
   found_top = get_or-set_same w₂ (b.queue + n) v 0 (stack_place ready₂.based n room)
 
+  -- at the first of its entries
+  pub found_first : get_or (discovered ws b w v n) (b.dependencies + v) 0 ≡ first_of ws v
+  found_first =
+      get_or-set_other w₂ (b.queue + n) (b.dependencies + v) v 0 (λ e. let a = ready.based.laid in let k = vertex_low ready.based v low in omega arith)
+      ∙ get_or-set_same w₁ (b.dependencies + v) (first_of ws v) 0 (cursor_place ready₁.based v low)
+
   pub found_stack : latest (discovered ws b w v n) b.queue (n + 1) ≡ v ∷ latest w b.queue n
   found_stack =
       latest_push w₂ b.queue n v (stack_place ready₂.based n room)

@@ -27,8 +27,8 @@ use Rattle.refusals.proofs.RefusedLaws.{number_some}
 use Rattle.founded.proofs.OutputLaws.{missing_list}
 use Rattle.founded.proofs.CallLaws.{absorbed_last, last_row, work_fits}
 use Rattle.input.specs.Bytes.{words}
-use Rattle.text.specs.Text.{loops_line, missing_line, Appended}
-use Rattle.report.specs.Report.{lines, atom_mask, node_mask, bad_masks, answer, Printed, Split}
+use Rattle.text.specs.Text.{loops_line, missing_line, refused_line, Appended}
+use Rattle.report.specs.Report.{lines, atom_mask, node_mask, bad_masks, answer, text_by, Printed, Split}
 use Rattle.report.specs.Answered.{Refuses, Ready, Answered}
 
 -- ---- the pass
@@ -58,6 +58,9 @@ pub answered_same : {a b : Answer} {graph never atom_never output never' atom_ne
 answered_same e en ea eo t = rw (← en, ← ea, eo, e) t
 
 -- ---- the text
+
+pub refused_text : (a : Answer) (both : List ℕ) (n p : ℕ) → n ≡ a.number → p ≡ a.place → (n ≡ 0 → ⊥) → refused_line n p ≡ text_by a both
+refused_text a both n p en ep h = rw (← en, ← ep, ne_eqb n 0 h)
 
 -- what is appended at 0 stands within the buffer
 append_within : {old text new : List ℕ} {r : ℕ} → Appended old 0 text new r → r ≤ length new
